@@ -136,13 +136,13 @@ fn carry_out<R, C, D, W>(
     words: &[String],
     script: &mut StdSource,
     out: &mut StdSink,
-    clock: &C,
+    clock: &mut C,
     doors: &mut D,
     watch: &W,
 ) -> Result<Status, Memory>
 where
     R: Threads + Wait + Sync,
-    C: Clock,
+    C: Clock + Send,
     D: Doors<From: Drop, To: Drop, Waker: Drop>,
     W: Watch,
 {
@@ -253,7 +253,7 @@ fn main(rt: HostRuntime) -> ExitCode {
     };
     let words = words.as_slice();
     let (mut script, mut out) = (StdSource::new(rt.stdin()), StdSink::new(rt.stdout()));
-    let clock = StdClock::new(&rt);
+    let mut clock = StdClock::new(&rt);
     let mut doors = TellingDoors::new(TcpDoors::new(&rt), &rt);
     let progress = Progress::new(rt.stderr());
     let status = match request {
@@ -268,7 +268,7 @@ fn main(rt: HostRuntime) -> ExitCode {
             words,
             &mut script,
             &mut out,
-            &clock,
+            &mut clock,
             &mut doors,
             &progress,
         )

@@ -51,8 +51,6 @@ impl<D: Doors, R: Eprint + Send> Doors for TellingDoors<D, R> {
 
     ghost book = { λ d. D.book d.doors };
 
-    ghost counted = { λ d. D.counted d.doors };
-
     fn open(&mut self, members: u8, port: u16) -> Result<(), DoorFault> {
         let ports = Ports {
             members,

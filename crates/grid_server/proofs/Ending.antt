@@ -25,12 +25,14 @@ use Rattle.live_grid.specs.Histories.{live_key, live_call}
 use Rattle.live_grid.specs.Outcomes.{LiveTells}
 use Rattle.live_control.specs.Running.{MayServe as MayControl}
 use Rattle.live_server.specs.declared.connections.Connections.{Connections}
-use Rattle.live_server.specs.Laws.{StaysServed}
-use Rattle.live_server.specs.Standing.{Rests, HasLetAllIn}
+use Rattle.live_session.specs.declared.note.CallNote.{CallNote}
+use Rattle.live_server.specs.Laws.{StaysServed, StaysInOrder}
+use Rattle.live_server.specs.Order.{KeepsOrder}
+use Rattle.live_server.specs.Standing.{Rests}
 use Rattle.served_history_laws.specs.Histories.{HaveMembers, ServedTellsHistories}
 use Rattle.serve_options.specs.declared.options.ServeOptions.{ServeOptions}
 use Rattle.grid_server.specs.declared.setting.Setting.{Setting}
-use Rattle.grid_server.specs.Serving.{Operator, AtDoors, IsOpened, EndsAs, HasServed}
+use Rattle.grid_server.specs.Serving.{Operator, AtDoors, IsOpened, AreAllLetIn, EndsAs, HasServed}
 use Rattle.grid_server.specs.Settings.{AreNew, IsSetting}
 use Rattle.grid_server.specs.Tasks.{HasServedClients, HasOperated}
 use Rattle.grid_server.proofs.Opening.{may_control_by}
@@ -82,17 +84,19 @@ module _ {F K : Type 0} where
         let members : (plan_of was.0).members ≡ options.members = (made partition was.0 was.1).members_are in
         subst (λ (p : GridPlan). 1 ≤ p.members) (sym was.2) (omega (arith, some, members))
 
-    pub has_served : 1 ≤ options.members → (gives : ℕ → Type 0) → StaysServed live_key LiveTells live_call (place_of stage_grid) gives → ServedTellsHistories gives → (before after : Operator) (opened closed : AtDoors) (told status : Status) (ended : Result (Unit {0}) DoorFault) (stage_options : ServeOptions) (first last pass : GridPass) (connections : Connections LiveWorld F K GridPlan (Event Request) Happened)
+    pub has_served : 1 ≤ options.members → (given : List ℕ) → StaysServed live_key LiveTells live_call (place_of stage_grid) given → ServedTellsHistories given → StaysInOrder live_key → (before after : Operator) (opened closed : AtDoors) (told status : Status) (ended : Result (Unit {0}) DoorFault) (stage_options : ServeOptions) (first last pass : GridPass) (connections : Connections LiveWorld F K GridPlan (Event Request) Happened)
         → stage_options ≡ options → first.passes.items ≡ setting.pass.passes.items
         → IsOpened options opened.book
-        → HasServedClients stage_grid gives connections opened closed ended
+        → HasServedClients stage_grid given connections opened closed ended
         → HasOperated stage_grid stage_options.members told before after first last
         → AreJoinedWith live_key last.passes.items (map (λ part. Some part) connections.passes.items) pass.passes.items
         → IsGridPassOf grid pass
         → EndsAs told status opened closed
-        → HasServed options forms gives before after opened closed status grid pass
-    has_served some gives stays tells before after opened closed told status ended stage_options first last pass connections same_options same_first is_opened served operated joined whole ends =
-        subst (λ (g : LiveGrid). HasServed options forms gives before after opened closed status g pass) (sym same_grid) (record {
+        → (notes : List CallNote) → notes ≡ connections.notes
+        → HasServed options forms given before after opened closed status grid pass notes
+    has_served some given stays tells keeps before after opened closed told status ended stage_options first last pass connections same_options same_first is_opened served operated joined whole ends notes notes_are =
+        let as_many = served.rests.passes.as_long ∙ sym (passes_of (place_of stage_grid).cells.items last.passes.items operated.kept.of_grid.tables).as_long in
+        subst (λ (g : LiveGrid). HasServed options forms given before after opened closed status g pass notes) (sym same_grid) (record {
           opened = served.opening ∙ is_opened.opening;
           cells = subst (λ (g : LiveGrid). AreCells options.members options.backups forms options.capacity (place_of g).cells.items) (sym made_grid) is.cells;
           first = first;
@@ -108,8 +112,9 @@ module _ {F K : Type 0} where
           gathered = joined;
           may_go_on = regained stage_grid last pass connections.passes.items operated.kept served.rests.passes.as_long joined (subst (λ (g : LiveGrid). IsGridPassOf g pass) same_grid whole);
           histories = tells (place_of stage_grid) pass.passes.items closed.book (have_members some)
-              (stays last.passes.items connections.passes.items pass.passes.items closed.book
-              (served.rests.passes.as_long ∙ sym (passes_of (place_of stage_grid).cells.items last.passes.items operated.kept.of_grid.tables).as_long) served.rests.named joined served.clients);
+              (stays last.passes.items connections.passes.items pass.passes.items closed.book as_many served.rests.named joined served.clients);
+          in_order = subst (λ (l : List CallNote). KeepsOrder live_key l pass.passes.items) (sym notes_are)
+              (keeps last.passes.items connections.passes.items pass.passes.items connections.notes as_many served.rests.named joined served.in_order);
           ends = ends;
           read_fault = operated.read_fault;
           write_fault = operated.write_fault;
@@ -118,7 +123,7 @@ module _ {F K : Type 0} where
 -- how a server ended, told of the doors as they were before they were opened
 ends_since : (told status : Status) (outside opened closed : AtDoors) → opened.looks ≡ outside.looks → outside.faults ≤ opened.faults → EndsAs told status opened closed → EndsAs told status outside closed
 ends_since told status outside opened closed looks faults ends = ⊎_elim
-    (λ (h : (status ≡ told) × HasLetAllIn opened.looks closed.looks closed.book.accepted). inl (h.0, subst (λ (n : ℕ). HasLetAllIn n closed.looks closed.book.accepted) looks h.1))
+    (λ (h : (status ≡ told) × AreAllLetIn opened.looks closed.looks (length closed.book.arrivals)). inl (h.0, subst (λ (n : ℕ). AreAllLetIn n closed.looks (length closed.book.arrivals)) looks h.1))
     (λ (h : (status ≡ FaultOfDoors) × Rose opened.faults closed.faults). inr (
       h.0,
       ⊎_elim
@@ -127,10 +132,10 @@ ends_since told status outside opened closed looks faults ends = ⊎_elim
     ))
     ends
 
-pub served_since : (options : ServeOptions) (forms : List Form) (gives : ℕ → Type 0) (before after : Operator) (outside opened closed : AtDoors) (status : Status) (grid : LiveGrid) (pass : GridPass)
+pub served_since : (options : ServeOptions) (forms : List Form) (given : List ℕ) (before after : Operator) (outside opened closed : AtDoors) (status : Status) (grid : LiveGrid) (pass : GridPass) (notes : List CallNote)
     → opened.looks ≡ outside.looks → outside.faults ≤ opened.faults
-    → HasServed options forms gives before after opened closed status grid pass → HasServed options forms gives before after outside closed status grid pass
-served_since options forms gives before after outside opened closed status grid pass looks faults served = record {
+    → HasServed options forms given before after opened closed status grid pass notes → HasServed options forms given before after outside closed status grid pass notes
+served_since options forms given before after outside opened closed status grid pass notes looks faults served = record {
   opened = served.opened;
   cells = served.cells;
   first = served.first;
@@ -146,6 +151,7 @@ served_since options forms gives before after outside opened closed status grid 
   gathered = served.gathered;
   may_go_on = served.may_go_on;
   histories = served.histories;
+  in_order = served.in_order;
   ends = ends_since served.told status outside opened closed looks faults served.ends;
   read_fault = served.read_fault;
   write_fault = served.write_fault;

@@ -1,6 +1,5 @@
 -- An operator who isn't heard.
 use Rattle.std.proofs.Common.{ℕ, inl, [], ◌++◌, refl, sym, append-nil}
-use Rattle.grid_edge.proofs.Told.{append_known-nil}
 use Rattle.grid_cli.specs.Scripts.{lines_of}
 use Rattle.grid_cli.specs.declared.status.Status.TheVariants.{Memory}
 use Rattle.live_grid.specs.declared.grid.GridPass.{GridPass}
@@ -14,7 +13,7 @@ pub not_heard : (grid : LiveGrid) (members : ℕ) (streams : Operator) (pass : G
 not_heard grid members streams pass may = record {
   control = record {
     written = [];
-    written_is = sym (append_known-nil streams.out.bytes);
+    written_is = sym (append-nil streams.out.bytes);
     script = record {
       read = [];
       read_is = sym (append-nil streams.script.given.bytes);

@@ -12,6 +12,9 @@ use Rattle.grid_edge.specs.Faults.{Rose}
 use Rattle.live_grid.specs.declared.grid.GridPass.{GridPass}
 use Rattle.live_grid.specs.declared.grid.LiveGrid.{LiveGrid}
 use Rattle.live_grid.specs.Grids.{place_of}
+use Rattle.live_grid.specs.Histories.{live_key}
+use Rattle.live_session.specs.declared.note.CallNote.{CallNote}
+use Rattle.live_server.specs.Order.{KeepsOrder}
 use Rattle.served_history_laws.specs.Histories.{TellsHistories}
 use Rattle.serve_options.specs.declared.options.ServeOptions.{ServeOptions}
 use Rattle.serve_options.specs.Options.{Words, AreOptions, faults}
@@ -45,7 +48,7 @@ pub record HasReplayedBy (words : Words) (forms : List ProcessorForm) (status : 
 
 -- no connection has come through the doors since: they tell of none, or they are as they were
 abbrev pub NoneCame : (outside closed : AtDoors) → Type 0
-NoneCame outside closed = (closed.book.accepted ≡ 0) ⊎ (closed.book ≡ outside.book)
+NoneCame outside closed = (closed.book.arrivals ≡ []) ⊎ (closed.book ≡ outside.book)
 
 -- Why no grid was made
 abbrev pub IsNoGridFor : Status → Words → (outside closed : AtDoors) → Type 0
@@ -67,19 +70,24 @@ pub record IsNotBegun (words : Words) (status : Status) (before after : Operator
   pub cause : IsNoGridFor status words outside closed
 
 -- A grid was made by the options that the words give, and has served to its end
-pub record HasServedFrom (words : Words) (forms : List Form) (gives : ℕ → Type 0) (before after : Operator) (outside closed : AtDoors) (status : Status) (grid : LiveGrid) (pass : GridPass) : Type 0 where
+pub record HasServedFrom (words : Words) (forms : List Form) (given : List ℕ) (before after : Operator) (outside closed : AtDoors) (status : Status) (grid : LiveGrid) (pass : GridPass) (notes : List CallNote) : Type 0 where
   pub options : ServeOptions
   pub read : AreOptions words options
-  pub served : HasServed options forms gives before after outside closed status grid pass
+  pub served : HasServed options forms given before after outside closed status grid pass notes
 
 -- How a server has ended that was to be started by these words: it made a grid, or it has not begun
-pub record HasEnded (words : Words) (forms : List Form) (gives : ℕ → Type 0) (before after : Operator) (outside closed : AtDoors) (ended : Ended) : Type 0 where
-  pub served : IfSome ended.grid (λ held. HasServedFrom words forms gives before after outside closed ended.status held.0 held.1)
+pub record HasEnded (words : Words) (forms : List Form) (given : List ℕ) (before after : Operator) (outside closed : AtDoors) (ended : Ended) : Type 0 where
+  pub served : IfSome ended.grid (λ held. HasServedFrom words forms given before after outside closed ended.status held.0 held.1 ended.notes)
   pub not_begun : IfNone ended.grid (IsNotBegun words ended.status before after outside closed)
 
 -- The grid, if one is handed back with a pass, has served clients whose calls stand in the histories that the pass has seen
-abbrev pub ServesHistories : (gives : ℕ → Type 0) → Book → Option (LiveGrid × GridPass) → Type 0
-ServesHistories gives book grid = IfSome grid (λ held. TellsHistories (place_of held.0) gives held.1.passes.items book)
+abbrev pub ServesHistories : (given : List ℕ) → Book → Option (LiveGrid × GridPass) → Type 0
+ServesHistories given book grid = IfSome grid (λ held. TellsHistories (place_of held.0) given held.1.passes.items book)
+
+-- Of two calls of one partition, made by any two clients of the grid, if one is handed back with a pass: the one whose outcome was found before the other
+-- was started stands first in what the pass has seen
+abbrev pub ServesInOrder : List CallNote → Option (LiveGrid × GridPass) → Type 0
+ServesInOrder notes grid = IfSome grid (λ held. KeepsOrder live_key notes held.1.passes.items)
 
 -- What a sample of this number comes to: no script is read, and no door is opened
 pub record HasSampledBy (number : ℕ) (forms : List Form) (before after : Operator) (outside closed : AtDoors) (ended : Ended) : Type 0 where

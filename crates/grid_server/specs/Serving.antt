@@ -1,5 +1,5 @@
 -- What a server that has ended has done.
-use Rattle.std.specs.Prelude.{◌≡◌, ◌⊎◌, ℕ, List, [], map, Option, Some, IfSome}
+use Rattle.std.specs.Prelude.{◌≡◌, ◌⊎◌, ℕ, List, [], map, length, Some}
 use Rattle.entry_processors.specs.declared.form.Form.{Form}
 use Rattle.grid_base.specs.declared.calls.Request.{Request}
 use Rattle.grid_cli.specs.declared.status.Status.{Status}
@@ -17,6 +17,8 @@ use Rattle.live_grid.specs.Histories.{live_key, live_call}
 use Rattle.live_grid.specs.Outcomes.{LiveTells}
 use Rattle.live_control.specs.Running.{MayServe as MayControl}
 use Rattle.live_control.specs.Serving.{HasServed as HasControlled}
+use Rattle.live_session.specs.declared.note.CallNote.{CallNote}
+use Rattle.live_server.specs.Order.{KeepsOrder}
 use Rattle.live_server.specs.Serving.{HasServedAll}
 use Rattle.live_server.specs.Standing.{HasLetAllIn}
 use Rattle.served_history_laws.specs.Histories.{TellsHistories}
@@ -30,7 +32,7 @@ pub record Incoming : Type 0 where
 
 -- a sink at one moment: the bytes that it has taken, and its count of faults
 pub record Stream : Type 0 where
-  pub bytes : Option (List ℕ)
+  pub bytes : List ℕ
   pub faults : ℕ
 
 -- an operator's streams: what was read of the script, and what was written
@@ -38,7 +40,7 @@ pub record Operator : Type 0 where
   pub script : Incoming
   pub out : Stream
 
-abbrev pub operator : (given : Given) → (reads : ℕ) → (taken : Option (List ℕ)) → (writes : ℕ) → Operator
+abbrev pub operator : (given : Given) → (reads : ℕ) → (taken : List ℕ) → (writes : ℕ) → Operator
 operator given reads taken writes = record { script = record { given = given; faults = reads }; out = record { bytes = taken; faults = writes } }
 
 -- doors at one moment
@@ -57,17 +59,21 @@ IsOpenedFor options book = book.opening ≡ Some (record { members = options.mem
 -- They were just opened: none has come yet
 pub record IsOpened (options : ServeOptions) (book : Book) : Type 0 where
   pub opening : IsOpenedFor options book
-  pub none_accepted : book.accepted ≡ 0
-  pub none_returned : IfSome book.returns (λ returns. returns ≡ [])
+  pub none_accepted : book.arrivals ≡ []
+  pub none_returned : book.returns ≡ []
+
+-- Since the first of these counts of empty looks a closing was seen, and by the second all who had come by then were let in
+abbrev pub AreAllLetIn : (looks_before looks accepted : ℕ) → Type 0
+AreAllLetIn looks_before looks accepted = (seen : ℕ) × HasLetAllIn looks_before seen looks accepted
 
 -- how the server ended: as its control script, once all who had come were let in, or by a fault of its doors
 abbrev pub EndsAs : Status → Status → AtDoors → AtDoors → Type 0
-EndsAs told status outside closed = ((status ≡ told) × HasLetAllIn outside.looks closed.looks closed.book.accepted) ⊎ ((status ≡ DoorFault) × Rose outside.faults closed.faults)
+EndsAs told status outside closed = ((status ≡ told) × AreAllLetIn outside.looks closed.looks (length closed.book.arrivals)) ⊎ ((status ≡ DoorFault) × Rose outside.faults closed.faults)
 
 -- A grid of these options and forms has served behind doors that were opened for its members. Its operator's script was run on it from the start, with a
 -- pass of each of its cells; each connection that came through the doors was served with others, and the pass has taken these in. It may run an
--- operator's events
-pub record HasServed (options : ServeOptions) (forms : List Form) (gives : ℕ → Type 0) (before after : Operator) (outside closed : AtDoors) (status : Status) (grid : LiveGrid) (pass : GridPass) : Type 0 where
+-- operator's events. What became of the connections' calls was noted
+pub record HasServed (options : ServeOptions) (forms : List Form) (given : List ℕ) (before after : Operator) (outside closed : AtDoors) (status : Status) (grid : LiveGrid) (pass : GridPass) (notes : List CallNote) : Type 0 where
   pub opened : IsOpenedFor options closed.book
   pub cells : AreCells options.members options.backups forms options.capacity (place_of grid).cells.items
   pub first : GridPass
@@ -79,10 +85,11 @@ pub record HasServed (options : ServeOptions) (forms : List Form) (gives : ℕ �
   pub control : HasControlled grid options.members told before.script.given after.script.given before.out.bytes after.out.bytes first last
   pub theirs : List (Told (Event Request))
   pub of_grid : ArePassesOf (place_of grid).cells.items theirs
-  pub clients : HasServedAll live_key LiveTells live_call (place_of grid) gives theirs closed.book
+  pub clients : HasServedAll live_key LiveTells live_call (place_of grid) given theirs closed.book
   pub gathered : AreJoinedWith live_key last.passes.items (map (λ pass. Some pass) theirs) pass.passes.items
   pub may_go_on : MayControl grid pass
-  pub histories : TellsHistories (place_of grid) gives pass.passes.items closed.book
+  pub histories : TellsHistories (place_of grid) given pass.passes.items closed.book
+  pub in_order : KeepsOrder live_key notes pass.passes.items
   pub ends : EndsAs told status outside closed
   -- a fault of the script or of what is written is told only where there was one
   pub read_fault : told ≡ ReadFault → Rose before.script.faults after.script.faults

@@ -17,17 +17,17 @@ use std::sync::Wait;
 pub(crate) fn serve_hall<N: Environment, C: Clock, D: Doors, R: Wait>(
     rt: &R,
     stage: &Stage<N, D::Waker>,
-    clock: &C,
+    clock: &mut C,
     connections: &mut Connections<LiveWorld, D::From, D::To>,
     doors: &mut D,
 ) -> Result<(), DoorFault>
     requires calls { ServesCalls RequestFits (place_of stage.now.grid) }
     requires may { MayServe live_key (place_of stage.now.grid) connections.old (D.book doors.old) }
-    ensures served { HasServedClients stage.now.grid (C.gives clock.now) connections.new
+    ensures served { HasServedClients stage.now.grid (C.given clock.new) connections.new
         (at_doors (D.book doors.old) (D.empty_looks doors.old) (D.faults doors.old))
         (at_doors (D.book doors.new) (D.empty_looks doors.new) (D.faults doors.new)) result }
 {
-    serve(
+    let ended = serve(
         rt,
         stage.alloc,
         stage.grid.workplace(),
@@ -35,5 +35,9 @@ pub(crate) fn serve_hall<N: Environment, C: Clock, D: Doors, R: Wait>(
         doors,
         clock,
         &stage.closing,
-    )
+    );
+    match ended {
+        Ok(_closed) => Ok(()),
+        Err(fault) => Err(fault),
+    }
 }

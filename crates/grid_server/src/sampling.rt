@@ -10,6 +10,7 @@ use call_engine::GridEnv;
 use entry_processors::{Form, Processor, Registry};
 use grid_edge::Sink;
 use grid_sample::{CAPACITY, Watch, run_sample};
+use live_session::CallNotes;
 use script_lang::number_within as read_within;
 use std::alloc::Global;
 use std::sync::Wait;
@@ -65,5 +66,9 @@ where
         capacity: CAPACITY,
     };
     let (status, grid) = run_sample(rt, alloc, number, env, forms, out, watch);
-    Ended { status, grid }
+    Ended {
+        status,
+        grid,
+        notes: CallNotes::new(),
+    }
 }

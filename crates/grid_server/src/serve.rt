@@ -1,5 +1,5 @@
 //! The command `serve`.
-ghost use Rattle.std.specs.Prelude.{◌≡◌, ◌⊎◌, ◌≤◌, ◌+◌, ◌*◌, All, List, map, OnOk, OnErr, IfErr, IfSome, IfNone};
+ghost use Rattle.std.specs.Prelude.{◌≡◌, ◌⊎◌, ◌≤◌, ◌+◌, ◌*◌, [], All, List, map, OnOk, OnErr, IfErr, IfSome, IfNone};
 ghost use Rattle.entry_processors.specs.Forms.{form_of};
 ghost use Rattle.entry_processors.specs.declared.form.Form.{Form as FormOf};
 ghost use Rattle.grid_edge.specs.Faults.{HasCause};
@@ -21,7 +21,8 @@ use entry_processors::{Form, Processor, Registry};
 use grid_cli::Status;
 use grid_edge::{Clock, DoorFault, Doors, Sink, Source};
 use live_grid::{Environment, GridPass, LiveGrid, LiveWorld, Shared};
-use live_server::every_served_connection_stays_so;
+use live_server::{every_noted_order_stays_so, every_served_connection_stays_so};
+use live_session::CallNotes;
 use partition_threads::{Gate, OpenGate, THREADS};
 use serve_options::{OptionsRefused, ServeOptions, read_options};
 use served_history_laws::every_served_call_stands_in_a_legal_history;
@@ -40,17 +41,17 @@ fn run<N, R, S, K, C, D, G>(
     setting: Setting<D::From, D::To>,
     script: &mut S,
     out: &mut K,
-    clock: &C,
+    clock: &mut C,
     doors: &mut D,
     gate: &G,
     waker: D::Waker,
-) -> Option<(Status, LiveGrid, GridPass)>
+) -> Option<(Status, LiveGrid, GridPass, CallNotes)>
 where
     N: Environment,
     R: Threads + Wait + Sync,
     S: Source,
     K: Sink,
-    C: Clock,
+    C: Clock + Send,
     D: Doors<From: Drop, To: Drop, Waker: Drop>,
     G: Gate,
     requires some { 1 ≤ options.members }
@@ -58,15 +59,15 @@ where
     requires env { All (λ cell. N.settings env.env ≡ settings_for (plan_of cell)) (place_of setting.grid).cells.items }
     requires setting { (forms : List FormOf) × IsSetting options forms setting }
     requires doors { IsOpened options (D.book doors.old) }
-    ensures served { IfSome result (λ ended. (forms : List FormOf) → IsSetting options forms setting → HasServed options forms (C.gives clock.now)
+    ensures served { IfSome result (λ ended. (forms : List FormOf) → IsSetting options forms setting → HasServed options forms (C.given clock.new)
         (operator (S.given script.old) (S.faults script.old) (K.taken out.old) (K.faults out.old))
         (operator (S.given script.new) (S.faults script.new) (K.taken out.new) (K.faults out.new))
         (at_doors (D.book doors.old) (D.empty_looks doors.old) (D.faults doors.old))
         (at_doors (D.book doors.new) (D.empty_looks doors.new) (D.faults doors.new))
-        ended.0 ended.1 ended.2) }
+        ended.0 ended.1 ended.2 ended.3) }
     ensures untouched { IfNone result (operator (S.given script.new) (S.faults script.new) (K.taken out.new) (K.faults out.new)
         ≡ operator (S.given script.old) (S.faults script.old) (K.taken out.old) (K.faults out.old)) }
-    ensures none_came { IfNone result ((D.book doors.new).accepted ≡ 0) }
+    ensures none_came { IfNone result ((D.book doors.new).arrivals ≡ []) }
 {
     let Setting {
         grid,
@@ -101,15 +102,16 @@ where
     let grid = stage.into_grid();
     let GridPass { passes, .. } = pass;
     let mut pass = GridPass { passes, tokens };
-    let (passes, tokens) = connections.into_parts();
+    let (passes, tokens, notes) = connections.into_parts();
     grid.gather(&mut pass, GridPass { passes, tokens });
-    every_served_connection_stays_so::<LiveWorld, C>();
-    every_served_call_stands_in_a_legal_history::<C>();
+    every_served_connection_stays_so::<LiveWorld>();
+    every_noted_order_stays_so::<LiveWorld>();
+    every_served_call_stands_in_a_legal_history();
     let status = match ended {
         Ok(()) => told,
         Err(DoorFault) => Status::DoorFault,
     };
-    Some((status, grid, pass))
+    Some((status, grid, pass, notes))
 }
 
 /// Opens the doors for the members, and gives what wakes who waits there. There is room for the server's threads.
@@ -119,7 +121,7 @@ fn open<D: Doors>(doors: &mut D, options: ServeOptions, _room: &Room) -> Result<
     requires most { options.members ≤ 8 }
     requires port { options.port ≤ 65528 }
     ensures ok { OnOk result (IsOpened options (D.book doors.new)) }
-    ensures err { OnErr result (((D.book doors.new).accepted ≡ 0) ⊎ (D.book doors.new ≡ D.book doors.old)) }
+    ensures err { OnErr result (((D.book doors.new).arrivals ≡ []) ⊎ (D.book doors.new ≡ D.book doors.old)) }
     ensures looks { D.empty_looks doors.new ≡ D.empty_looks doors.old }
     ensures cause { HasCause (D.faults doors.old) (D.faults doors.new) result }
 {
@@ -177,7 +179,7 @@ pub fn serve_gated<R, S, K, C, D, G>(
     forms: &[Form],
     script: &mut S,
     out: &mut K,
-    clock: &C,
+    clock: &mut C,
     doors: &mut D,
     gate: &G,
 ) -> Ended
@@ -185,11 +187,11 @@ where
     R: Threads + Wait + Sync,
     S: Source,
     K: Sink,
-    C: Clock,
+    C: Clock + Send,
     D: Doors<From: Drop, To: Drop, Waker: Drop>,
     G: Gate,
     requires forms { map form processors.items ≡ map form_of forms.now }
-    ensures { HasEnded words.now forms.now (C.gives clock.now)
+    ensures { HasEnded words.now forms.now (C.given clock.new)
         (operator (S.given script.old) (S.faults script.old) (K.taken out.old) (K.faults out.old))
         (operator (S.given script.new) (S.faults script.new) (K.taken out.new) (K.faults out.new))
         (at_doors (D.book doors.old) (D.empty_looks doors.old) (D.faults doors.old))
@@ -215,12 +217,13 @@ where
     let ran = run(
         rt, alloc, options, env, setting, script, out, clock, doors, gate, waker,
     );
-    let Some((status, grid, pass)) = ran else {
+    let Some((status, grid, pass, notes)) = ran else {
         return Ended::without_grid(Status::Memory);
     };
     Ended {
         status,
         grid: Some((grid, pass)),
+        notes,
     }
 }
 
@@ -233,17 +236,17 @@ pub fn serve_command<R, S, K, C, D>(
     forms: &[Form],
     script: &mut S,
     out: &mut K,
-    clock: &C,
+    clock: &mut C,
     doors: &mut D,
 ) -> Ended
 where
     R: Threads + Wait + Sync,
     S: Source,
     K: Sink,
-    C: Clock,
+    C: Clock + Send,
     D: Doors<From: Drop, To: Drop, Waker: Drop>,
     requires forms { map form processors.items ≡ map form_of forms.now }
-    ensures { HasEnded words.now forms.now (C.gives clock.now)
+    ensures { HasEnded words.now forms.now (C.given clock.new)
         (operator (S.given script.old) (S.faults script.old) (K.taken out.old) (K.faults out.old))
         (operator (S.given script.new) (S.faults script.new) (K.taken out.new) (K.faults out.new))
         (at_doors (D.book doors.old) (D.empty_looks doors.old) (D.faults doors.old))

@@ -29,7 +29,7 @@ use thread_crew::{join_told, with_crew};
 fn serve_both<N, R, S, K, C, D>(
     rt: &R,
     stage: &Stage<N, D::Waker>,
-    clock: &C,
+    clock: &mut C,
     connections: &mut Connections<LiveWorld, D::From, D::To>,
     doors: &mut D,
     pass: &mut GridPass,
@@ -41,10 +41,10 @@ where
     R: Threads + Wait + Sync,
     S: Source,
     K: Sink,
-    C: Clock,
+    C: Clock + Send,
     D: Doors,
     requires { MayMeet stage.now.options stage.now.grid (D.book doors.old) connections.old pass.old }
-    ensures served { HasServedClients stage.now.grid (C.gives clock.now) connections.new
+    ensures served { HasServedClients stage.now.grid (C.given clock.new) connections.new
         (at_doors (D.book doors.old) (D.empty_looks doors.old) (D.faults doors.old))
         (at_doors (D.book doors.new) (D.empty_looks doors.new) (D.faults doors.new)) result.0 }
     ensures operated { HasOperated stage.now.grid stage.now.options.members result.1
@@ -66,7 +66,7 @@ where
 fn serve_if_whole<N, R, S, K, C, D>(
     rt: &R,
     stage: &Stage<N, D::Waker>,
-    clock: &C,
+    clock: &mut C,
     connections: &mut Connections<LiveWorld, D::From, D::To>,
     doors: &mut D,
     pass: &mut GridPass,
@@ -79,10 +79,10 @@ where
     R: Threads + Wait + Sync,
     S: Source,
     K: Sink,
-    C: Clock,
+    C: Clock + Send,
     D: Doors,
     requires { MayMeet stage.now.options stage.now.grid (D.book doors.old) connections.old pass.old }
-    ensures { HasMet stage.now.grid (C.gives clock.now) stage.now.options.members connections.new
+    ensures { HasMet stage.now.grid (C.given clock.new) stage.now.options.members connections.new
         (at_doors (D.book doors.old) (D.empty_looks doors.old) (D.faults doors.old))
         (at_doors (D.book doors.new) (D.empty_looks doors.new) (D.faults doors.new))
         (operator (S.given script.old) (S.faults script.old) (K.taken out.old) (K.faults out.old))
@@ -99,7 +99,7 @@ where
 fn serve_front<N, R, S, K, C, D>(
     rt: &R,
     stage: &Stage<N, D::Waker>,
-    clock: &C,
+    clock: &mut C,
     connections: &mut Connections<LiveWorld, D::From, D::To>,
     doors: &mut D,
     pass: &mut GridPass,
@@ -112,10 +112,10 @@ where
     R: Threads + Wait + Sync,
     S: Source,
     K: Sink,
-    C: Clock,
+    C: Clock + Send,
     D: Doors,
     requires { MayMeet stage.now.options stage.now.grid (D.book doors.old) connections.old pass.old }
-    ensures { HasMet stage.now.grid (C.gives clock.now) stage.now.options.members connections.new
+    ensures { HasMet stage.now.grid (C.given clock.new) stage.now.options.members connections.new
         (at_doors (D.book doors.old) (D.empty_looks doors.old) (D.faults doors.old))
         (at_doors (D.book doors.new) (D.empty_looks doors.new) (D.faults doors.new))
         (operator (S.given script.old) (S.faults script.old) (K.taken out.old) (K.faults out.old))
@@ -141,7 +141,7 @@ where
 fn run_crew<N, R, S, K, C, D, G>(
     rt: &R,
     stage: &Stage<N, D::Waker>,
-    clock: &C,
+    clock: &mut C,
     gate: &G,
     workers: Vec<Worker>,
     connections: &mut Connections<LiveWorld, D::From, D::To>,
@@ -155,12 +155,12 @@ where
     R: Threads + Wait + Sync,
     S: Source,
     K: Sink,
-    C: Clock,
+    C: Clock + Send,
     D: Doors,
     G: Gate,
     requires workers { AreWorkers (place_of stage.now.grid) workers.items }
     requires front { MayMeet stage.now.options stage.now.grid (D.book doors.old) connections.old pass.old }
-    ensures { HasMet stage.now.grid (C.gives clock.now) stage.now.options.members connections.new
+    ensures { HasMet stage.now.grid (C.given clock.new) stage.now.options.members connections.new
         (at_doors (D.book doors.old) (D.empty_looks doors.old) (D.faults doors.old))
         (at_doors (D.book doors.new) (D.empty_looks doors.new) (D.faults doors.new))
         (operator (S.given script.old) (S.faults script.old) (K.taken out.old) (K.faults out.old))
@@ -194,7 +194,7 @@ where
 pub(crate) fn run_threads<N, R, S, K, C, D, G>(
     rt: &R,
     stage: &Stage<N, D::Waker>,
-    clock: &C,
+    clock: &mut C,
     gate: &G,
     workers: Vec<Worker>,
     connections: &mut Connections<LiveWorld, D::From, D::To>,
@@ -208,12 +208,12 @@ where
     R: Threads + Wait + Sync,
     S: Source,
     K: Sink,
-    C: Clock,
+    C: Clock + Send,
     D: Doors,
     G: Gate,
     requires workers { AreWorkers (place_of stage.now.grid) workers.items }
     requires front { MayMeet stage.now.options stage.now.grid (D.book doors.old) connections.old pass.old }
-    ensures served { IfSome result (λ ended. HasServedClients stage.now.grid (C.gives clock.now) connections.new
+    ensures served { IfSome result (λ ended. HasServedClients stage.now.grid (C.given clock.new) connections.new
         (at_doors (D.book doors.old) (D.empty_looks doors.old) (D.faults doors.old))
         (at_doors (D.book doors.new) (D.empty_looks doors.new) (D.faults doors.new)) ended.0) }
     ensures operated { IfSome result (λ ended. HasOperated stage.now.grid stage.now.options.members ended.1

@@ -5,7 +5,7 @@ ghost use Rattle.grid_cli.specs.Commands.{PrintsHistories};
 ghost use Rattle.grid_cli.specs.NearHits.{PrintsHits};
 ghost use Rattle.grid_cli.specs.Decisions.{PrintsDecisions};
 ghost use Rattle.grid_cli.specs.Waits.{PrintsWaits};
-ghost use Rattle.grid_server.specs.Commands.{is_serve, sample_of, HasReplayedBy, HasSampledBy, HasEnded, ServesHistories};
+ghost use Rattle.grid_server.specs.Commands.{is_serve, sample_of, HasReplayedBy, HasSampledBy, HasEnded, ServesHistories, ServesInOrder};
 ghost use Rattle.grid_server.specs.Serving.{operator, at_doors};
 
 use crate::ended::Ended;
@@ -42,7 +42,7 @@ pub fn grid_top<R, S, K, C, D, W>(
     forms: &[Form],
     script: &mut S,
     out: &mut K,
-    clock: &C,
+    clock: &mut C,
     doors: &mut D,
     watch: &W,
 ) -> Ended
@@ -50,7 +50,7 @@ where
     R: Threads + Wait + Sync,
     S: Source,
     K: Sink,
-    C: Clock,
+    C: Clock + Send,
     D: Doors<From: Drop, To: Drop, Waker: Drop>,
     W: Watch,
     requires forms { map form processors.items ≡ map form_of forms.now }
@@ -75,14 +75,17 @@ where
     ensures waits { is_serve words.now ≡ false → sample_of words.now ≡ None → PrintsWaits (map form processors.items) result.status (S.given script.old) (S.given script.new) (K.taken out.old) (K.taken out.new) }
     // The control script was run on the grid that is handed back, in the histories that its pass has seen; and each client that
     // came was answered by these. Where no grid was made, the words, the doors or memory are the cause.
-    ensures served { is_serve words.now ≡ true → HasEnded words.now forms.now (C.gives clock.now)
+    ensures served { is_serve words.now ≡ true → HasEnded words.now forms.now (C.given clock.new)
         (operator (S.given script.old) (S.faults script.old) (K.taken out.old) (K.faults out.old))
         (operator (S.given script.new) (S.faults script.new) (K.taken out.new) (K.faults out.new))
         (at_doors (D.book doors.old) (D.empty_looks doors.old) (D.faults doors.old))
         (at_doors (D.book doors.new) (D.empty_looks doors.new) (D.faults doors.new)) result }
     // What the pass that is handed back has seen of each object is the history of one that one thread used, with every answered
     // call in it once, and the reply that its client was sent for it. Each call in it is one message's of a client that came.
-    ensures histories { is_serve words.now ≡ true → ServesHistories (C.gives clock.now) (D.book doors.new) result.grid }
+    ensures histories { is_serve words.now ≡ true → ServesHistories (C.given clock.new) (D.book doors.new) result.grid }
+    // Of two clients' calls of one partition, that one's event stands first in what the pass has seen whose outcome the server
+    // had found before it started the other. Each call that was seen has its start and this moment in the notes.
+    ensures in_order { is_serve words.now ≡ true → ServesInOrder result.notes result.grid }
     // The summary of the number's script was printed, and behind it what was counted on the grid that is handed back; or as much
     // of it as the status says. No script was read, and no door was opened.
     ensures sampled { (number : ℕ) → sample_of words.now ≡ Some number → HasSampledBy number forms.now

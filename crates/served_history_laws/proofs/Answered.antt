@@ -1,6 +1,6 @@
 -- A call that was answered stands in its object's history as its answer says.
-use Rattle.std.proofs.Common.{◌≡◌, ◌⊎◌, inl, inr, ⊎_elim, ℕ, ℤ, pos, ◌≤◌, true, List, [], ◌∷◌, ◌++◌, All, Contains, Option, Some, None, slice_get, refl, sym, ap, ◌∙◌, subst, append_assoc}
-use Rattle.std.proofs.lemmas.List.Elements.{All-contains, Contains-append_left}
+use Rattle.std.proofs.Common.{◌≡◌, ◌⊎◌, inl, inr, ⊎_elim, ℕ, ℤ, pos, ◌≤◌, true, List, [], ◌∷◌, ◌++◌, Contains, Option, Some, None, slice_get, refl, sym, ap, ◌∙◌, subst, append_assoc}
+use Rattle.std.proofs.lemmas.List.Elements.{Contains-append_left}
 use Rattle.std.specs.Int.{w32, cast_signed}
 use Rattle.grid_base.specs.Errors.{partition_lost, wrong_target, migrating}
 use Rattle.grid_base.specs.declared.names.CallId.{CallId}
@@ -16,7 +16,7 @@ use Rattle.job_queues.specs.Roster.{roster_of}
 use Rattle.call_engine.specs.Objects.{one_object, partition_object, target_of}
 use Rattle.partition_protocol.specs.Execution.{Reached}
 use Rattle.partition_protocol.specs.History.{Entry}
-use Rattle.partition_protocol.proofs.Lists.{In, in_contains, in_cases, in_right, contains_in}
+use Rattle.partition_protocol.proofs.Lists.{In, in_contains, in_cases, in_left, in_right, contains_in}
 use Rattle.partition_threads.specs.declared.workplace.Workplace.{Workplace}
 use Rattle.partition_world.specs.Answers.{id_of}
 use Rattle.partition_world.specs.declared.event.Event.{Event}
@@ -32,6 +32,7 @@ use Rattle.live_history_laws.specs.Fitting.{Fits}
 use Rattle.live_history_laws.specs.Names.{AreNamedOnce, AreNew}
 use Rattle.live_session.specs.Connections.{IsServed, IsNotRun, TellsOutcome}
 use Rattle.live_session.specs.Replies.{error_to, told_bytes}
+use Rattle.live_session.specs.Starts.{Start, start_of, AreGiven}
 use Rattle.served_history_laws.specs.Histories.{IsErrorTo, IsRefusedWith, IsAnsweredWith}
 
 -- What the laws of live histories say
@@ -50,6 +51,17 @@ PartitionsFit = (plan : GridPlan) (history : List (Event Request)) → 1 ≤ pla
 abbrev pub ObjectsFit : Type 0
 ObjectsFit = (plan : GridPlan) (history : List (Event Request)) (name : ObjectKey) → 1 ≤ plan.members → AreNamedOnce history
     → Fits (one_object (settings_for plan) name) (asks_of name) plan history (object_trail plan history name)
+
+-- the moment of a start is one that the clock gave
+moment_in : (starts : List Start) (given : List ℕ) → AreGiven starts given → (start : Start) → In start starts → In start.moment given
+moment_in [] given are start there = absurd there
+moment_in (latest ∷ earlier) given are start (inl same) =
+    subst (λ (l : List ℕ). In start.moment l) (sym are.2) (in_right start.moment are.0 (latest.moment ∷ are.1) (inl (ap (λ (s : Start). s.moment) same)))
+moment_in (latest ∷ earlier) given are start (inr there) =
+    subst (λ (l : List ℕ). In start.moment l) (sym are.2) (in_left start.moment are.0 (latest.moment ∷ are.1) (moment_in earlier are.0 are.3 start there))
+
+moment_given : (starts : List Start) (given : List ℕ) → AreGiven starts given → (start : Start) → Contains starts start → Contains given start.moment
+moment_given starts given are start there = contains_in start.moment given (moment_in starts given are start (in_contains start starts there))
 
 -- What is known by a key
 
@@ -83,7 +95,7 @@ same_plan : (p q : GridPlan) → ◌≡◌ {A = Option GridPlan} (Some p) (Some 
 same_plan p q e = cc
 
 module _ (once : NewAreNamedOnce) (stand : RepliesStand) (partitions : PartitionsFit) (objects : ObjectsFit)
-    (place : Workplace LiveWorld GridPlan (Event Request) Happened) (gives : ℕ → Type 0) (moments : List ℕ) (by_clock : All gives moments)
+    (place : Workplace LiveWorld GridPlan (Event Request) Happened) (given : List ℕ) (starts : List Start) (by_clock : AreGiven starts given)
     (plan : GridPlan) (some : 1 ≤ plan.members) (history : List (Event Request)) (new : AreNew history) (member : ℕ) (request : Request)
     (plan_is : slice_get (roster_of place.cells.items).plans request.partition ≡ Some plan) where
   abbrev entries : List (Entry Request)
@@ -92,7 +104,7 @@ module _ (once : NewAreNamedOnce) (stand : RepliesStand) (partitions : Partition
   fits : Fits (one_object (settings_for plan) (target_of request)) (asks_of (target_of request)) plan history entries
   fits = objects plan history (target_of request) some (once history new)
 
-  module _ (outcome : LiveOutcome) (served : IsServed live_key LiveTells live_call moments place member request history outcome) where
+  module _ (outcome : LiveOutcome) (served : IsServed live_key LiveTells live_call starts place member request history outcome) where
     abbrev own : Event Request
     own = live_call member request served.now
 
@@ -135,10 +147,10 @@ module _ (once : NewAreNamedOnce) (stand : RepliesStand) (partitions : Partition
     is_error : (bytes : List ℕ) (code : ℕ) (more : ℤ) → bytes ≡ error_to request.correlation code more → IsErrorTo request.correlation bytes
     is_error bytes code more is = (code, more, is)
 
-    by_outcome : (o : LiveOutcome) → LiveTells plan served.until own o → (bytes : List ℕ) → told_bytes request.correlation o ≡ Some bytes → IsAnsweredWith gives plan history member request bytes
+    by_outcome : (o : LiveOutcome) → LiveTells plan served.until own o → (bytes : List ℕ) → told_bytes request.correlation o ≡ Some bytes → IsAnsweredWith given plan history member request bytes
     by_outcome (live.Replied reply) tells bytes is = inl (record {
       now = served.now;
-      by_clock = All-contains gives moments served.now by_clock served.given;
+      by_clock = moment_given starts given by_clock (start_of request served.now) served.given;
       came = contains_in own history in_history;
       entry = subst (λ (r : List ℕ). HasEntry entries request.id request served.now r) (sym (some_bytes bytes reply is))
           (fits.told served.until served.later member request.id request served.now (live.Replied reply) served.cut (came_until reply tells) is_own tells);
@@ -160,7 +172,7 @@ module _ (once : NewAreNamedOnce) (stand : RepliesStand) (partitions : Partition
     by_outcome live.Memory tells bytes is = absurd tells
 
   -- a call that wasn't run stands nowhere
-  not_run : (bytes : List ℕ) → IsNotRun live_key LiveTells live_call moments place request history bytes → IsRefusedWith gives plan history request bytes
+  not_run : (bytes : List ℕ) → IsNotRun live_key LiveTells live_call starts place request history bytes → IsRefusedWith given plan history request bytes
   not_run bytes refused = record {
     nowhere = λ call there same.
         let came = (fits.came call there).1 in
@@ -168,8 +180,8 @@ module _ (once : NewAreNamedOnce) (stand : RepliesStand) (partitions : Partition
     error = (refused.code, pos 0, refused.reply_is);
   }
 
-  pub is_answered : (bytes : List ℕ) → TellsOutcome live_key LiveTells live_call moments place member request history bytes ⊎ IsNotRun live_key LiveTells live_call moments place request history bytes
-      → IsAnsweredWith gives plan history member request bytes
+  pub is_answered : (bytes : List ℕ) → TellsOutcome live_key LiveTells live_call starts place member request history bytes ⊎ IsNotRun live_key LiveTells live_call starts place request history bytes
+      → IsAnsweredWith given plan history member request bytes
   is_answered bytes = ⊎_elim
-      (λ (tells : TellsOutcome live_key LiveTells live_call moments place member request history bytes). by_outcome tells.outcome tells.served tells.outcome (told tells.outcome tells.served) bytes tells.reply_is)
-      (λ (refused : IsNotRun live_key LiveTells live_call moments place request history bytes). inr (not_run bytes refused))
+      (λ (tells : TellsOutcome live_key LiveTells live_call starts place member request history bytes). by_outcome tells.outcome tells.served tells.outcome (told tells.outcome tells.served) bytes tells.reply_is)
+      (λ (refused : IsNotRun live_key LiveTells live_call starts place request history bytes). inr (not_run bytes refused))

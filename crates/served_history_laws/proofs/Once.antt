@@ -64,27 +64,27 @@ given_back number (given ∷ returns) once = go (given.number == number) refl (�
 less_or_more : (n m : ℕ) → (n < m) ⊎ (m ≤ n)
 less_or_more n m = grind arith
 
-module _ (place : Workplace LiveWorld GridPlan (Event Request) Happened) (gives : ℕ → Type 0) (passes : List (Told (Event Request))) (book : Book)
-    (all : HasServedAll live_key LiveTells live_call place gives passes book) (partition : ℕ) (pass : Told (Event Request)) (there : slice_get passes partition ≡ Some pass) where
+module _ (place : Workplace LiveWorld GridPlan (Event Request) Happened) (given : List ℕ) (passes : List (Told (Event Request))) (book : Book)
+    (all : HasServedAll live_key LiveTells live_call place given passes book) (partition : ℕ) (pass : Told (Event Request)) (there : slice_get passes partition ≡ Some pass) where
   -- a call that was seen, at its place
   pub call_at : (before after : List (Event Request)) (event : Event Request) (id : CallId) → pass.seen ≡ before ++ event ∷ after → live_key event ≡ key.Call id
-      → IsOfClient place gives passes book all partition event id × AreBelow live_key id.conn id.number before
-  call_at before after event id whole named = ⊎_elim came never (less_or_more id.conn book.accepted)
+      → IsOfClient place given passes book all partition event id × AreBelow live_key id.conn id.number before
+  call_at before after event id whole named = ⊎_elim came never (less_or_more id.conn (length book.arrivals))
     where
-      never : book.accepted ≤ id.conn → IsOfClient place gives passes book all partition event id × AreBelow live_key id.conn id.number before
+      never : length book.arrivals ≤ id.conn → IsOfClient place given passes book all partition event id × AreBelow live_key id.conn id.number before
       never more = absurd (none_there live_key id.conn before after event id (subst (λ (l : List (Event Request)). AreBelow live_key id.conn 0 l) whole (all.no_other id.conn more partition pass there)) named refl)
 
-      came : id.conn < book.accepted → IsOfClient place gives passes book all partition event id × AreBelow live_key id.conn id.number before
+      came : id.conn < length book.arrivals → IsOfClient place given passes book all partition event id × AreBelow live_key id.conn id.number before
       came less =
           let once = all.once id.conn less in
-          let back = given_back id.conn all.returns (omega (arith, once)) in
+          let back = given_back id.conn book.returns (omega (arith, once)) in
           let served = all.served back.at back.given back.within in
           let is = served.answered.answers.calls partition before after event id (served.seen_is partition pass there ∙ whole) named (sym back.number_is) in (
             record { at = back.at; other = back.given; within = back.within; is = record { number = back.number_is; call = is.0 } },
             subst (λ (n : ℕ). AreBelow live_key n id.number before) back.number_is is.1,
           )
 
-  pub each_of_client : (event : Event Request) (id : CallId) → Contains pass.seen event → live_key event ≡ key.Call id → IsOfClient place gives passes book all partition event id
+  pub each_of_client : (event : Event Request) (id : CallId) → Contains pass.seen event → live_key event ≡ key.Call id → IsOfClient place given passes book all partition event id
   each_of_client event id within named = let split = split_at pass.seen event within in (call_at split.before split.after event id split.whole named).0
 
   pub are_new : AreNew pass.seen

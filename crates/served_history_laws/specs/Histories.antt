@@ -31,12 +31,13 @@ use Rattle.live_server.specs.Serving.{HasServedAll, WasServed}
 abbrev pub IsErrorTo : ℤ → List ℕ → Type 0
 IsErrorTo correlation bytes = (code : ℕ) × (more : ℤ) × (bytes ≡ error_to correlation code more)
 
-module _ (gives : ℕ → Type 0) (plan : GridPlan) (history : List (Event Request)) where
-  -- The call's event stands in the partition's history, at this member and at a moment that the clock gives, and the call in its object's, with these
+-- The clock has given these moments by now
+module _ (given : List ℕ) (plan : GridPlan) (history : List (Event Request)) where
+  -- The call's event stands in the partition's history, at this member and at a moment that the clock gave, and the call in its object's, with these
   -- bytes as its reply
   pub record StandsWith (member : ℕ) (request : Request) (bytes : List ℕ) : Type 0 where
     pub now : ℕ
-    pub by_clock : gives now
+    pub by_clock : Contains given now
     pub came : Contains history (live_call member request now)
     pub entry : HasEntry (object_trail plan history (target_of request)) request.id request now bytes
 
@@ -49,7 +50,7 @@ module _ (gives : ℕ → Type 0) (plan : GridPlan) (history : List (Event Reque
   abbrev pub IsAnsweredWith : ℕ → Request → List ℕ → Type 0
   IsAnsweredWith member request bytes = StandsWith member request bytes ⊎ IsRefusedWith request bytes
 
-module _ (place : Workplace LiveWorld GridPlan (Event Request) Happened) (gives : ℕ → Type 0) (passes : List (Told (Event Request))) where
+module _ (place : Workplace LiveWorld GridPlan (Event Request) Happened) (given : List ℕ) (passes : List (Told (Event Request))) where
   -- The history is what the pass of this partition has seen, and the plan that of its cell
   pub record IsHistoryOf (partition : ℕ) (plan : GridPlan) (history : List (Event Request)) : Type 0 where
     pub plan_is : slice_get (roster_of place.cells.items).plans partition ≡ Some plan
@@ -61,29 +62,29 @@ module _ (place : Workplace LiveWorld GridPlan (Event Request) Happened) (gives 
   abbrev pub AreAnswered : (member : ℕ) → List Item → List (List ℕ) → Type 0
   AreAnswered member messages replies = (at : ℕ) (request : Request) (bytes : List ℕ) (plan : GridPlan) (history : List (Event Request))
       → slice_get messages at ≡ Some (Call request) → slice_get replies at ≡ Some bytes → IsHistoryOf request.partition plan history
-      → IsAnsweredWith gives plan history member request bytes
+      → IsAnsweredWith given plan history member request bytes
 
   -- The event is the call of one message of this connection, in the message's partition
-  pub record IsOfConnection {arrivals : List Arrival} {given : Return} (served : WasServed live_key LiveTells live_call place gives passes arrivals given) (partition : ℕ) (event : Event Request) (id : CallId) : Type 0 where
-    pub number : given.number ≡ id.conn
-    pub call : IsCallOf live_key LiveTells live_call served.answered.moments place (items_of given.number served.arrival.member (messages_of true served.answered.read)) served.arrival.member partition event id
+  pub record IsOfConnection {arrivals : List Arrival} {back : Return} (served : WasServed live_key LiveTells live_call place given passes arrivals back) (partition : ℕ) (event : Event Request) (id : CallId) : Type 0 where
+    pub number : back.number ≡ id.conn
+    pub call : IsCallOf live_key LiveTells live_call served.answered.starts place (items_of back.number served.arrival.member (messages_of true served.answered.read)) served.arrival.member partition event id
 
   module _ (book : Book) where
     -- it is that of one of the connections that came
-    pub record IsOfClient (clients : HasServedAll live_key LiveTells live_call place gives passes book) (partition : ℕ) (event : Event Request) (id : CallId) : Type 0 where
+    pub record IsOfClient (clients : HasServedAll live_key LiveTells live_call place given passes book) (partition : ℕ) (event : Event Request) (id : CallId) : Type 0 where
       pub at : ℕ
       pub other : Return
-      pub within : at < length clients.returns
+      pub within : at < length book.returns
       pub is : IsOfConnection (clients.served at other within) partition event id
 
     -- The clients that came through the doors were served from one thread's use of each object.
     pub record TellsHistories : Type 0 where
-      pub clients : HasServedAll live_key LiveTells live_call place gives passes book
+      pub clients : HasServedAll live_key LiveTells live_call place given passes book
       -- what was seen of each object in each partition is what one thread could have seen that used one object, and no call stands in it twice
       pub objects : (partition : ℕ) (plan : GridPlan) (history : List (Event Request)) → IsHistoryOf partition plan history
           → (name : ObjectKey) → Fits (one_object (settings_for plan) name) (asks_of name) plan history (object_trail plan history name)
       -- each call of a connection that was answered stands in it, at the connection's member, with the reply whose bytes the connection was sent at its place
-      pub answered : (at : ℕ) (other : Return) (within : at < length clients.returns)
+      pub answered : (at : ℕ) (other : Return) (within : at < length book.returns)
           → AreAnswered (clients.served at other within).arrival.member (clients.served at other within).answered.answers.answered (clients.served at other within).answered.answers.replies
       -- each call that was seen is that of one message of a connection that came, and was seen once
       pub calls : (partition : ℕ) (plan : GridPlan) (history : List (Event Request)) → IsHistoryOf partition plan history
@@ -97,6 +98,6 @@ abbrev pub HaveMembers : Workplace LiveWorld GridPlan (Event Request) Happened �
 HaveMembers place = (partition : ℕ) (plan : GridPlan) → slice_get (roster_of place.cells.items).plans partition ≡ Some plan → 1 ≤ plan.members
 
 -- A server that has served all connections by what its passes have seen tells histories
-abbrev pub ServedTellsHistories : (gives : ℕ → Type 0) → Type 0
-ServedTellsHistories gives = (place : Workplace LiveWorld GridPlan (Event Request) Happened) (passes : List (Told (Event Request))) (book : Book)
-    → HaveMembers place → HasServedAll live_key LiveTells live_call place gives passes book → TellsHistories place gives passes book
+abbrev pub ServedTellsHistories : (given : List ℕ) → Type 0
+ServedTellsHistories given = (place : Workplace LiveWorld GridPlan (Event Request) Happened) (passes : List (Told (Event Request))) (book : Book)
+    → HaveMembers place → HasServedAll live_key LiveTells live_call place given passes book → TellsHistories place given passes book

@@ -58,7 +58,7 @@ pub(crate) fn run<G: Gate, R: Threads + Wait + Sync>(
         &[],
         &mut script,
         &mut out,
-        &FixedClock::new(7),
+        &mut FixedClock::new(7),
         &mut doors,
         gate,
     );

@@ -61,10 +61,10 @@ fn take_turns<R: Wait>(
     requires serves { ServesCalls RequestFits place.now }
 {
     let (mut from, mut to) = streams;
-    let clock = FixedClock::new(7);
+    let mut clock = FixedClock::new(7);
     let mut connection = Connection::new(alloc, session);
     for _ in rt.forever() {
-        match connection.turn(rt, alloc, place, &mut from, &mut to, &clock) {
+        match connection.turn(rt, alloc, place, &mut from, &mut to, &mut clock) {
             Turned::Moved => {}
             Turned::NotYet => thread::yield_now(),
             Turned::Ended(end) => {
@@ -184,8 +184,8 @@ fn serve<R: Wait>(
     let mut from = Blocking::new(said);
     let mut to = Blocking::new(MemorySink::in_pieces(Vec::new(alloc), MOST_HEARD));
     let place = grid.workplace();
-    let clock = FixedClock::new(7);
-    let (end, _) = serve_connection(rt, alloc, place, session, &mut from, &mut to, &clock);
+    let mut clock = FixedClock::new(7);
+    let (end, _) = serve_connection(rt, alloc, place, session, &mut from, &mut to, &mut clock);
     place.stop();
     (end, to)
 }

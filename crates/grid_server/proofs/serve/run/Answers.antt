@@ -27,8 +27,8 @@ pub returns-clause-served : goal.returns-clause-served
 returns-clause-served g c =
     let joined = subst (λ passes. AreJoinedWith live_key c.run_threads-ran.new.pass.passes.items (map (λ part. Some part) passes.items) c.gather.new.pass.passes.items) c.into_parts-passes.ensures.0 c.gather.ensures.joined in
     λ forms is. has_served c.args.options forms c.args.setting is _ _ c.into_grid-grid.ensures c.new-stage.ensures.grid c.requires.some _
-    (c.every_served_connection_stays_so.ensures _ c.args.clock.now) (c.every_served_call_stands_in_a_legal_history.ensures c.args.clock.now) _ _ _ _ _ _ _ _ _ _ _ c.run_threads-ran.new.connections c.new-stage.ensures.options refl c.requires.doors c.in-Some.ensures.served c.in-Some.ensures.operated joined c.gather.ensures.kept
+    (c.every_served_connection_stays_so.ensures _ _) (c.every_served_call_stands_in_a_legal_history.ensures _) c.every_noted_order_stays_so.ensures _ _ _ _ _ _ _ _ _ _ _ c.run_threads-ran.new.connections c.new-stage.ensures.options refl c.requires.doors c.in-Some.ensures.served c.in-Some.ensures.operated joined c.gather.ensures.kept
     (elim c.match-ended.branch [
       | in-Ok w ↦ inl (w.status-is, on_ok _ _ _ w.in-Ok.is c.in-Some.ensures.served.let_in)
       | in-Err w ↦ inr (w.status-is, on_err _ _ _ w.in-Err.is c.in-Some.ensures.served.cause.rose)
-    ])
+    ]) _ c.into_parts-passes.ensures.2

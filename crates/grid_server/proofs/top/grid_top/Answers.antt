@@ -1,7 +1,7 @@
 use Rattle.std.proofs.Common.{ap, ◌∙◌, sym, refl}
 use Rattle.grid_server.specs.Serving.{operator}
 use Rattle.grid_server.proofs.Replayed.{replayed_as, printed_as, hit_as, decided_as, waited_as, sampled_as}
-use Rattle.grid_server.proofs.ServedHistories.{serves_histories}
+use Rattle.grid_server.proofs.ServedHistories.{serves_histories, serves_in_order}
 use Rattle.grid_server.proofs.SampleWords.{sample_is_no_server, some_none, same_some}
 use Rattle.grid_server.proofs.top.grid_top.Goals as goal
 
@@ -26,11 +26,17 @@ returns-in-Some-clause-served g c = λ server. absurd (sample_is_no_server c.arg
 pub returns-in-Some-clause-histories : goal.returns-in-Some-clause-histories
 returns-in-Some-clause-histories g c = λ server. absurd (sample_is_no_server c.args.words.now c.in-Some.number (sym c.in-Some.ensures) server)
 
+pub returns-in-Some-clause-in_order : goal.returns-in-Some-clause-in_order
+returns-in-Some-clause-in_order g c = λ server. absurd (sample_is_no_server c.args.words.now c.in-Some.number (sym c.in-Some.ensures) server)
+
 pub returns-in-Some-clause-sampled : goal.returns-in-Some-clause-sampled
 returns-in-Some-clause-sampled g c = λ number asked. sampled_as _ _ _ _ _ _ _ _ (same_some _ _ (c.in-Some.ensures ∙ asked)) refl refl c.sample_command.ensures
 
 pub returns-then-is_serve_command-clause-histories : goal.returns-then-is_serve_command-clause-histories
 returns-then-is_serve_command-clause-histories g c = λ server. serves_histories _ _ _ _ _ _ _ _ c.serve_command.ensures
+
+pub returns-then-is_serve_command-clause-in_order : goal.returns-then-is_serve_command-clause-in_order
+returns-then-is_serve_command-clause-in_order g c = λ server. serves_in_order _ _ _ _ _ _ _ _ c.serve_command.ensures
 
 pub returns-then-is_serve_command-clause-sampled : goal.returns-then-is_serve_command-clause-sampled
 returns-then-is_serve_command-clause-sampled g c = λ number asked. absurd (some_none _ (sym asked ∙ sym c.in_default.ensures))

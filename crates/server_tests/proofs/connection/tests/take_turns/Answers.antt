@@ -1,5 +1,5 @@
 use Rattle.std.proofs.Common.{[], ◌++◌}
-use Rattle.live_session.specs.Turns.{with_moment}
+use Rattle.live_session.specs.Starts.{with_start}
 use Rattle.server_tests.specs.Sessions.{none_seen}
 use Rattle.server_tests.proofs.connection.tests.take_turns.Goals as goal
 
@@ -10,10 +10,10 @@ pub loop-preserved-in-Moved : goal.loop-preserved-in-Moved
 loop-preserved-in-Moved g c =
     let s = c.loop.invariant in
     let turn = c.in-Moved.ensures.turned s.0 s.1 s.2 s.3 s.4 in
-    (turn.sees, with_moment turn.started s.1, s.2 ++ turn.moves.read, s.3 ++ turn.moves.written, turn.stands.0)
+    (turn.sees, with_start turn.started s.1, s.2 ++ turn.moves.read, s.3 ++ turn.moves.written, turn.stands.0)
 
 pub loop-preserved : goal.loop-preserved
 loop-preserved g c =
     let s = c.loop.invariant in
     let turn = c.in-NotYet.ensures.turned s.0 s.1 s.2 s.3 s.4 in
-    (turn.sees, with_moment turn.started s.1, s.2 ++ turn.moves.read, s.3 ++ turn.moves.written, turn.stands.0)
+    (turn.sees, with_start turn.started s.1, s.2 ++ turn.moves.read, s.3 ++ turn.moves.written, turn.stands.0)
