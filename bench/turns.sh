@@ -5,8 +5,9 @@
 # of the mutex on a shared counter, which is slow, a tenth. TURNS_BENCH names another program.
 #
 # Then it times calls, one after another, that go to another thread and back: through a queue of jobs and parcels, and
-# through a mutex and a condition variable for each way. `busy` has the next call follow at once, a tenth of TURNS of them;
-# `parked` has the other thread sleep before each, 1,000 of them. Calls a second are those of one caller that waits for each.
+# through a mutex and a condition variable for each way. Those by `once` are made by the caller itself, while the worker of
+# the queue stands by. `busy` has the next call follow at once, a tenth of TURNS of them; `parked` has the other thread sleep
+# before each, 1,000 of them. Calls a second are those of one caller that waits for each.
 set -euo pipefail
 
 TURNS_BENCH=${TURNS_BENCH:-crates/turns_bench/out/turns_bench}
@@ -45,7 +46,7 @@ done
 echo
 printf '%8s %8s %10s %14s %10s %10s\n' by other calls calls/second p50/ns p99/ns
 for pace in busy parked; do
-    for means in queue lock; do
+    for means in queue once lock; do
         count=$(((turns + 9) / 10))
         if [ "$pace" = parked ]; then
             count=1000

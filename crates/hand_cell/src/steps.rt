@@ -40,6 +40,26 @@ impl<T: Stands, W: PlanIs<T::Plan>> Play<Option<Held<T>>, View<T::Event>> for Lo
     ghost then = { Looks T.stands T.key_of W.plan };
 }
 
+/// Finds which ticket is served.
+pub(crate) struct Glance;
+
+impl<T, E> Play<Option<Held<T>>, View<E>> for Glance {
+    ghost use Rattle.hand_cell.specs.Rule.{Reaches};
+
+    ghost then = { Reaches };
+}
+
+/// Draws a ticket that is served already, and takes the turn.
+pub(crate) struct Seize<T, W> {
+    value: PhantomData<(T, W)>,
+}
+
+impl<T: Stands, W: PlanIs<T::Plan>> Play<Option<Held<T>>, View<T::Event>> for Seize<T, W> {
+    ghost use Rattle.hand_cell.specs.Rule.{Seizes};
+
+    ghost then = { Seizes T.stands T.key_of W.plan };
+}
+
 /// Names the event of a turn, if there was one.
 pub(crate) trait EventIs<E> {
     ghost use Rattle.std.specs.Prelude.{Option};

@@ -1,14 +1,14 @@
 //! How a turn is drawn, awaited, taken and passed on.
-ghost use Rattle.std.specs.Prelude.{◌≡◌, [], Some};
+ghost use Rattle.std.specs.Prelude.{◌≡◌, [], Some, IfSome, IfNone};
 ghost use Rattle.hand_cell.specs.declared.view.Stage.TheVariants.{Away, Waiting};
-ghost use Rattle.hand_cell.specs.Rule.{view_of, at_stage, IsSamePass, HasLooked, HasTurn};
+ghost use Rattle.hand_cell.specs.Rule.{view_of, at_stage, having_reached, IsSamePass, HasLooked, HasTurn, HasGlanced};
 ghost use Rattle.hand_cell.specs.Inside.{IsTurn};
 ghost use Rattle.hand_cell.specs.Told.{event_of, after_ran};
 
 use crate::cell::Cell;
 use crate::pass::Place;
 use crate::stands::Stands;
-use crate::steps::{Draw, EventIs, Look, PassOn, PlanIs};
+use crate::steps::{Draw, EventIs, Glance, Look, PassOn, PlanIs, Seize};
 use crate::view::Held;
 use std::snapshot::Snapshot;
 use std::sync::Wait;
@@ -47,6 +47,35 @@ impl<T: Stands> Cell<T> {
             }
         }
         unreachable!()
+    }
+
+    /// Draws the next ticket and takes the value, where that ticket is the one served. Else it draws and takes nothing.
+    pub(crate) fn seize<W: PlanIs<T::Plan>>(&self, place: &mut Place<T>) -> Option<(u64, Held<T>)>
+        requires cell { place.old.table_id ≡ self.now.table.shared.table_id }
+        requires plan { W.plan ≡ Some self.now.table.shared.key }
+        requires empty { place.old.me.1 ≡ [] }
+        requires idle { (view_of place.old).stage ≡ Away }
+        ensures cell { IsSamePass place.old place.new }
+        ensures taken { IfSome result (λ turn. HasTurn T.stands T.key_of self.now.table.shared.key
+            (having_reached (view_of place.old) turn.0) turn.0 turn.1 place.new.me) }
+        ensures left { IfNone result (HasGlanced (view_of place.old) place.new.me) }
+    {
+        let next = self.table.shared.peek(NEXT);
+        let served = self.table.shared.load::<Glance>(place, SERVED);
+        if served != next || next == u64::MAX {
+            return None;
+        }
+        let found = self
+            .table
+            .shared
+            .compare_exchange::<Seize<T, W>>(place, NEXT, next, next + 1);
+        if found != next {
+            return None;
+        }
+        let Some(held) = self.table.shared.exchange(place, 0, None) else {
+            unreachable!()
+        };
+        Some((next, held))
     }
 
     /// Waits until the ticket is served, and takes the value.

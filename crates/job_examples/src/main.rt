@@ -1,7 +1,8 @@
 //! Examples of job queues, workers and sessions: a queue of one place hands a job back, workers serve calls that are
-//! held, and sessions start and finish calls without waiting.
+//! held, two callers make their calls at one partition, and sessions start and finish calls without waiting.
 #![tactic(auto)]
 
+mod meeting;
 mod queue_of_one;
 mod relay;
 mod requests;
@@ -38,6 +39,16 @@ fn served_each_time<R: Threads + Wait + Sync>(
     Ok(true)
 }
 
+/// Whether two callers at one partition were answered with their own reply, each time.
+fn met_each_time<R: Threads + Wait + Sync>(rt: &R, alloc: Global) -> Result<bool, Memory> {
+    for _ in 0..ROUNDS {
+        if meeting::meet(rt, alloc)? != (Some(1), Some(2)) {
+            return Ok(false);
+        }
+    }
+    Ok(true)
+}
+
 /// Whether the full queue handed the second job back, and what was taken was what was put, in its order.
 fn is_in_order(seen: &OneByOne) -> bool {
     seen.handed_back == 2 && seen.taken == (Some(1), Some(2), None)
@@ -65,6 +76,11 @@ fn main(rt: HostRuntime) -> io::Result<()> {
             )?
         }
         Ok(_) => println!(rt; "two sessions: an answer is missing, or a pass")?,
+        Err(AllocError) => println!(rt; "want of memory")?,
+    }
+    match met_each_time(&rt, rt.alloc()) {
+        Ok(true) => println!(rt; "two callers at one partition: both were answered")?,
+        Ok(false) => println!(rt; "two callers at one partition: an answer is missing")?,
         Err(AllocError) => println!(rt; "want of memory")?,
     }
     for pauses in [0, PAUSES] {

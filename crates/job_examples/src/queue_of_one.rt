@@ -12,7 +12,7 @@ use crate::relay::Relay;
 use crate::requests::first_request;
 use grid_base::Memory;
 use hand_cell::{Cell, Names, Pass};
-use job_queues::{Busy, Job, JobQueue, QueuePass};
+use job_queues::{Busy, Job, JobQueue, NewCall, QueuePass, Work};
 use std::alloc::{AllocError, Global};
 use std::sync::Wait;
 
@@ -34,18 +34,25 @@ fn job_for(
     requires cell { IsPassOf cell.now pass }
     requires named { has pass.names (Call (first_call conn)) ≡ true }
     requires unused { pass.seen ≡ [] }
-    ensures { (roster : Roster (Unit {0})) → StandsAt roster 0 cell.now → IfOk result (λ job. IsJobFor key_of (λ _ request _. asked_of request) (λ _. Unit {0}) roster job) }
+    ensures { (roster : Roster (Unit {0})) → StandsAt roster 0 cell.now → IfOk result (λ job. IsJobFor key_of (λ _ _ _ _. Unit {0}) (λ _ request _. asked_of request) (λ _. Unit {0}) roster job) }
 {
-    match Job::new(alloc, cell, pass, 0, first_request(alloc, conn, 0), 0) {
+    let call = NewCall {
+        pass,
+        member: 0,
+        request: first_request(alloc, conn, 0),
+        now: 0,
+    };
+    match Job::new(alloc, cell, call) {
         Ok((job, _, _)) => Ok(job),
         Err(_) => Err(AllocError),
     }
 }
 
-fn conn_of(job: &Option<Job<Relay>>) -> Option<u32> {
-    match job {
-        Some(job) => Some(job.request.id.conn),
-        None => None,
+/// The connection whose call a job is for.
+fn conn_of(job: &Job<Relay>) -> u32 {
+    match &job.work {
+        Work::New(call) => call.request.id.conn,
+        Work::Begun(call) => call.id.conn,
     }
 }
 
@@ -57,8 +64,8 @@ struct TwoJobs {
 }
 
 fn two_jobs(alloc: Global) -> Result<TwoJobs, Memory>
-    ensures first { (roster : Roster (Unit {0})) → IfOk result (λ made. StandsAt roster 0 made.cell → IsJobFor key_of (λ _ request _. asked_of request) (λ _. Unit {0}) roster made.first) }
-    ensures second { (roster : Roster (Unit {0})) → IfOk result (λ made. StandsAt roster 0 made.cell → IsJobFor key_of (λ _ request _. asked_of request) (λ _. Unit {0}) roster made.second) }
+    ensures first { (roster : Roster (Unit {0})) → IfOk result (λ made. StandsAt roster 0 made.cell → IsJobFor key_of (λ _ _ _ _. Unit {0}) (λ _ request _. asked_of request) (λ _. Unit {0}) roster made.first) }
+    ensures second { (roster : Roster (Unit {0})) → IfOk result (λ made. StandsAt roster 0 made.cell → IsJobFor key_of (λ _ _ _ _. Unit {0}) (λ _ request _. asked_of request) (λ _. Unit {0}) roster made.second) }
 {
     let (cell, mut pass) = Cell::new(alloc, Relay::new(alloc), &())?;
     let one = cell.split(&mut pass, Names::One(1));
@@ -104,8 +111,8 @@ fn put_both<R: Wait>(
     second: Job<Relay>,
 ) -> Option<OneByOne>
     requires token { IsTokenOf queue.now token.old }
-    requires first { IsJobFor key_of (λ _ request _. asked_of request) (λ _. Unit {0}) token.old.roster first }
-    requires second { IsJobFor key_of (λ _ request _. asked_of request) (λ _. Unit {0}) token.old.roster second }
+    requires first { IsJobFor key_of (λ _ _ _ _. Unit {0}) (λ _ request _. asked_of request) (λ _. Unit {0}) token.old.roster first }
+    requires second { IsJobFor key_of (λ _ _ _ _. Unit {0}) (λ _ request _. asked_of request) (λ _. Unit {0}) token.old.roster second }
 {
     if queue.put(rt, token, first).is_err() {
         return None;
@@ -113,7 +120,7 @@ fn put_both<R: Wait>(
     let Err(Busy { job }) = queue.put(rt, token, second) else {
         return None;
     };
-    let handed_back = job.request.id.conn;
+    let handed_back = conn_of(&job);
     let one = queue.take(rt, token);
     if queue.put(rt, token, job).is_err() {
         return None;
@@ -122,6 +129,10 @@ fn put_both<R: Wait>(
     let none = queue.take(rt, token);
     Some(OneByOne {
         handed_back,
-        taken: (conn_of(&one), conn_of(&two), conn_of(&none)),
+        taken: (
+            one.as_ref().map(conn_of),
+            two.as_ref().map(conn_of),
+            none.as_ref().map(conn_of),
+        ),
     })
 }

@@ -108,11 +108,11 @@ pub fn number_in(outcome: &LiveOutcome) -> Option<u32> {
 
 /// What the caller of both calls holds: a token of each worker's queue, and a pass for each call.
 #[derive(Drop)]
-struct Caller {
-    first: QueuePass<Relay>,
-    second: QueuePass<Relay>,
-    one: Pass<Relay>,
-    two: Pass<Relay>,
+pub struct Caller {
+    pub first: QueuePass<Relay>,
+    pub second: QueuePass<Relay>,
+    pub one: Pass<Relay>,
+    pub two: Pass<Relay>,
 }
 
 /// Starts a call that is held, at member 0, and later one that sends a message, at member 1. Its delivery releases
@@ -144,12 +144,12 @@ fn call_both<R: Wait>(
 }
 
 /// Whether a worker ended with no call held.
-fn work<R: Wait>(
+pub fn work<G: Gate, R: Wait>(
     rt: &R,
     alloc: Global,
     number: usize,
     place: &Workplace<Relay>,
-    gate: &Turnstile,
+    gate: &G,
     queue: QueuePass<Relay>,
 ) -> bool
     requires { IsTokenAt place.now number queue }
@@ -178,14 +178,14 @@ pub fn token_at(
 }
 
 /// A workplace over one cell, with eight workers, and what is held there.
-struct Opened {
-    place: Workplace<Relay>,
-    caller: Caller,
-    first: QueuePass<Relay>,
-    second: QueuePass<Relay>,
+pub struct Opened {
+    pub place: Workplace<Relay>,
+    pub caller: Caller,
+    pub first: QueuePass<Relay>,
+    pub second: QueuePass<Relay>,
 }
 
-fn open(alloc: Global) -> Result<Opened, Memory>
+pub fn open(alloc: Global) -> Result<Opened, Memory>
     ensures { IfOk result (λ opened. IsOpened opened) }
 {
     let (cell, mut pass) = Cell::new(alloc, Relay::new(alloc), &())?;

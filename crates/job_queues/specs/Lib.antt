@@ -1,4 +1,5 @@
 pub mod Answers
+pub mod Calls
 pub mod Ends
 pub mod Jobs
 pub mod Lists

@@ -1,4 +1,4 @@
--- The rule of a queue of jobs: each job that waits may be run on the cells that the queue is made for.
+-- The rule of a queue of jobs: each job that waits may be done on the cells that the queue is made for.
 use Rattle.std.specs.Prelude.{◌≡◌, ℕ, ◌⊎◌, List, [], All}
 use Rattle.job_queues.specs.declared.roster.QueueSide.{QueueSide}
 use Rattle.job_queues.specs.declared.roster.QueueSide.TheVariants.{Opening, Ready, Spent}
@@ -32,10 +32,10 @@ module _ {P J : Type 0} (may : Roster P → J → Type 0) where
     pub agree : (j : ℕ) (v : QueueSide P) → At sides j v → Agrees roster v
     pub opening : (j : ℕ) (v : QueueSide P) → At sides j v → IsOpening v → (items ≡ []) × ((i : ℕ) (u : QueueSide P) → At sides i u → (i ≡ j) ⊎ IsSpent u)
 
-  -- the pass knows what it knew, and that the job may be run
+  -- the pass knows what it knew, and that the job may be done
   abbrev pub knows : QueueSide P → J → QueueSide P → Type 0
   knows before job after = (after ≡ before) × may (roster_in before) job
 
-  -- each of the jobs may be run on the cells that a pass knows
+  -- each of the jobs may be done on the cells that a pass knows
   abbrev pub were_for : QueueSide P → List J → Type 0
   were_for side items = All (may (roster_in side)) items

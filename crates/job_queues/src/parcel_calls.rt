@@ -3,11 +3,12 @@ ghost use Rattle.std.specs.Prelude.{◌≡◌, Some, IfOk, IfSome, IfNone};
 ghost use Rattle.std.specs.Arc.{arc_value};
 ghost use Rattle.crossbeam_queue.specs.Passes.{view, IsPassOf};
 ghost use Rattle.job_queues.specs.declared.terms.ParcelSide.TheVariants.{Opening, Sender, Receiver};
-ghost use Rattle.job_queues.specs.Terms.{Terms, terms_for};
+ghost use Rattle.job_queues.specs.Terms.{Terms, terms_for, terms_noted};
 ghost use Rattle.job_queues.specs.Ends.{IsEndOf, new_end, after_empty_look};
 ghost use Rattle.job_queues.specs.Answers.{IsDone};
 
 use crate::bell::Bell;
+use crate::call::BegunCall;
 use crate::parcel::{Done, Parcel, ParcelEnd};
 use crate::parcel_rule::{Gives, Seal, Sends, TermsAre};
 use crate::terms::ParcelSide;
@@ -31,24 +32,65 @@ impl<T: Served> Parcel<T> {
         ensures sender { IfOk result (λ made. made.1 ≡ new_end (arc_value made.0) (Sender (terms_for T.call_of cell.now pass.now member request.now now))) }
         ensures receiver { IfOk result (λ made. made.2 ≡ new_end (arc_value made.0) (Receiver (terms_for T.call_of cell.now pass.now member request.now now))) }
     {
+        let (parcel, mut sender) = Parcel::unsealed(alloc)?;
+        let receiver = parcel.seal::<Brand>(&mut sender, cell, pass, member, request, now);
+        parcel.shared(alloc, sender, receiver)
+    }
+
+    /// An empty parcel for this call, which has run on the cell, with the sender's end and the receiver's. It is on the terms
+    /// that the call noted.
+    pub fn noted(
+        alloc: Global,
+        cell: &Cell<T>,
+        call: &BegunCall<T>,
+    ) -> Result<(Arc<Parcel<T>>, ParcelEnd<T>, ParcelEnd<T>), Memory>
+        ensures sender { IfOk result (λ made. made.1 ≡ new_end (arc_value made.0) (Sender (terms_noted cell.now call.now))) }
+        ensures receiver { IfOk result (λ made. made.2 ≡ new_end (arc_value made.0) (Receiver (terms_noted cell.now call.now))) }
+    {
+        let (parcel, mut sender) = Parcel::unsealed(alloc)?;
+        let receiver = parcel.seal_noted::<Brand>(&mut sender, cell, call);
+        parcel.shared(alloc, sender, receiver)
+    }
+
+    /// An empty parcel that has no terms yet, and its first end.
+    fn unsealed(alloc: Global) -> Result<(Parcel<T>, Seat<Done<T>, ParcelSide<T>>), Memory>
+        ensures queue { IfOk result (λ made. IsPassOf made.0.queue made.1) }
+        ensures first { IfOk result (λ made. view made.1 ≡ Opening) }
+    {
         match RuledArrayQueue::ruled(alloc, 1) {
-            Ok((queue, mut seat)) => {
-                let parcel = Parcel {
+            Ok((queue, seat)) => Ok((
+                Parcel {
                     queue,
                     bell: Bell::new(),
-                };
-                let other = parcel.seal::<Brand>(&mut seat, cell, pass, member, request, now);
-                Ok((
-                    Arc::new(alloc, parcel)?,
-                    ParcelEnd { seat, empty: 0 },
-                    ParcelEnd {
-                        seat: other,
-                        empty: 0,
-                    },
-                ))
-            }
+                },
+                seat,
+            )),
             Err(_) => Err(AllocError),
         }
+    }
+
+    /// The parcel in shared memory, with both its ends.
+    fn shared(
+        self,
+        alloc: Global,
+        sender: Seat<Done<T>, ParcelSide<T>>,
+        receiver: Seat<Done<T>, ParcelSide<T>>,
+    ) -> Result<(Arc<Parcel<T>>, ParcelEnd<T>, ParcelEnd<T>), Memory>
+        requires queue { IsPassOf self.queue sender × IsPassOf self.queue receiver }
+        ensures sender { IfOk result (λ made. made.1 ≡ new_end (arc_value made.0) (view sender)) }
+        ensures receiver { IfOk result (λ made. made.2 ≡ new_end (arc_value made.0) (view receiver)) }
+    {
+        Ok((
+            Arc::new(alloc, self)?,
+            ParcelEnd {
+                seat: sender,
+                empty: 0,
+            },
+            ParcelEnd {
+                seat: receiver,
+                empty: 0,
+            },
+        ))
     }
 
     fn seal<W: TermsAre<T::Plan, T::Event>>(
@@ -72,6 +114,24 @@ impl<T: Served> Parcel<T> {
         let _ = member;
         let _ = request;
         let _ = now;
+        self.queue.another::<Seal<W>>(seat)
+    }
+
+    fn seal_noted<W: TermsAre<T::Plan, T::Event>>(
+        &self,
+        seat: &mut Seat<Done<T>, ParcelSide<T>>,
+        cell: &Cell<T>,
+        call: &BegunCall<T>,
+    ) -> Seat<Done<T>, ParcelSide<T>>
+        requires terms { W.terms ≡ Some (terms_noted cell.now call.now) }
+        requires queue { IsPassOf self.now.queue seat.old }
+        requires first { view seat.old ≡ Opening }
+        ensures queue { IsPassOf self.now.queue seat.new × IsPassOf self.now.queue result }
+        ensures sender { view seat.new ≡ Sender (terms_noted cell.now call.now) }
+        ensures receiver { view result ≡ Receiver (terms_noted cell.now call.now) }
+    {
+        let _ = cell;
+        let _ = call;
         self.queue.another::<Seal<W>>(seat)
     }
 

@@ -105,17 +105,25 @@ impl<T: Served> JobQueue<T> {
         }
     }
 
+    /// Whether no job waited at a moment of this call. It waits for nobody: two loads, no memory and no system call.
+    pub fn is_empty(&self, token: &mut QueuePass<T>) -> bool
+        requires { IsTokenOf self.now token.old }
+        ensures { token.new ≡ token.old }
+    {
+        self.queue.is_empty_as::<HandsOver<T>>(&mut token.seat)
+    }
+
     /// Puts a job at the end. It comes back as it was only where the queue was full at a moment of this call: the count
     /// of full looks rises then, and nowhere else. Constant time, no memory and no system call; it waits only for a
     /// thread that was stopped in the midst of a `put` or `take` here.
     pub fn put<R: Wait>(&self, rt: &R, token: &mut QueuePass<T>, job: Job<T>) -> Result<(), Busy<T>>
         requires queue { IsTokenOf self.now token.old }
-        requires job { IsJobFor T.key_of T.call_of T.fits token.old.roster job }
+        requires job { IsJobFor T.key_of T.tells T.call_of T.fits token.old.roster job }
         ensures queue { IsSameQueue token.old token.new }
         ensures ok { OnOk result (token.new ≡ token.old) }
         ensures back { IfErr result (λ busy. busy.job ≡ job) }
         ensures rose { IfErr result (λ _. token.new ≡ after_full_look token.old) }
-        ensures full { IfErr result (λ _. WasFull T.key_of T.call_of T.fits token.old.roster self.now) }
+        ensures full { IfErr result (λ _. WasFull T.key_of T.tells T.call_of T.fits token.old.roster self.now) }
     {
         match self
             .queue
@@ -133,7 +141,7 @@ impl<T: Served> JobQueue<T> {
     /// of this call: the count of empty looks rises then, and nowhere else. Costs what `put` costs.
     pub fn take<R: Wait>(&self, rt: &R, token: &mut QueuePass<T>) -> Option<Job<T>>
         requires { IsTokenOf self.now token.old }
-        ensures job { IfSome result (λ job. IsJobFor T.key_of T.call_of T.fits token.old.roster job) }
+        ensures job { IfSome result (λ job. IsJobFor T.key_of T.tells T.call_of T.fits token.old.roster job) }
         ensures queue { IsSameQueue token.old token.new }
         ensures same { IfSome result (λ _. token.new ≡ token.old) }
         ensures rose { IfNone result (token.new ≡ after_empty_look token.old) }

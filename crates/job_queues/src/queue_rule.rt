@@ -9,13 +9,13 @@ use crossbeam_queue::protocol::{Lesson, Outcome, Protocol, Split};
 use hand_cell::Served;
 use std::marker::{Brand, PhantomData};
 
-/// Each job that waits may be run on the cells that the queue is made for.
+/// Each job that waits may be done on the cells that the queue is made for.
 pub struct QueueRule<T> {
     job: PhantomData<T>,
 }
 
 impl<T: Served> Protocol<Job<T>, QueueSide<T::Plan>> for QueueRule<T> {
-    ghost holds = { Queued (IsJobFor T.key_of T.call_of T.fits) };
+    ghost holds = { Queued (IsJobFor T.key_of T.tells T.call_of T.fits) };
 
     ghost first = { Opening };
 }
@@ -59,9 +59,9 @@ pub(crate) struct HandsOver<T> {
 }
 
 impl<T: Served> Outcome<Job<T>, QueueSide<T::Plan>> for HandsOver<T> {
-    ghost then = { knows (IsJobFor T.key_of T.call_of T.fits) };
+    ghost then = { knows (IsJobFor T.key_of T.tells T.call_of T.fits) };
 }
 
 impl<T: Served> Lesson<Job<T>, QueueSide<T::Plan>> for HandsOver<T> {
-    ghost fact = { were_for (IsJobFor T.key_of T.call_of T.fits) };
+    ghost fact = { were_for (IsJobFor T.key_of T.tells T.call_of T.fits) };
 }

@@ -4,3 +4,4 @@ pub mod Queues
 pub mod Removed
 pub mod Serving
 pub mod Going
+pub mod MadeCalls

@@ -1,5 +1,5 @@
 -- A cell of the place, found at a partition.
-use Rattle.std.proofs.Common.{◌≡◌, ℕ, zero, suc, List, [], ◌∷◌, map, sym, ap, ◌∙◌, subst, Option, Some, None, slice_get, get_or}
+use Rattle.std.proofs.Common.{◌≡◌, ℕ, zero, suc, List, [], ◌∷◌, map, refl, sym, ap, ◌∙◌, subst, Option, Some, None, slice_get, get_or}
 use Rattle.atomic_table.specs.Seated.{TableId}
 use Rattle.hand_cell.specs.declared.cell.Cell.{Cell}
 use Rattle.hand_cell.specs.Calls.{plan_of}
@@ -31,3 +31,9 @@ stands_at {T} {P} {E} {O} cells p i t cell e same is = let here = subst (λ (z :
   table = at_place (λ (c : Cell T P E O). c.table.shared.table_id) (λ (c : Cell T P E O). c.table.shared.table_id) cells p t cell e here;
   plan = at_place (λ (c : Cell T P E O). c.table.shared.table_id) (λ (c : Cell T P E O). plan_of c) cells p t cell e here;
 }
+
+-- where a cell is there is its plan
+pub planned : {T P E O : Type 0} (cells : List (Cell T P E O)) (p : ℕ) (t : TableId) → slice_get (roster_of cells).tables p ≡ Some t → (x : P) × (slice_get (roster_of cells).plans p ≡ Some x)
+planned [] p t e = absurd (no_some t e)
+planned (c ∷ cs) zero t e = (plan_of c, refl)
+planned (c ∷ cs) (suc p) t e = planned cs p t e

@@ -1,6 +1,8 @@
 -- A call's event in what its pass has seen.
-use Rattle.std.proofs.Common.{◌≡◌, List, [], ◌∷◌, ◌++◌, sym, refl, ap, ◌∙◌, subst, append_assoc, inl, inr, ⊎_elim, IfSome, Option, Some, None, Contains, length}
+use Rattle.std.proofs.Common.{◌≡◌, ℕ, List, [], ◌∷◌, ◌++◌, sym, refl, ap, ◌∙◌, subst, append_assoc, inl, inr, ⊎_elim, IfSome, Option, Some, None, Contains, length}
 use Rattle.std.proofs.lemmas.List.Elements.{Contains-append_left, Contains-append_right, Contains-push}
+use Rattle.grid_base.specs.declared.calls.Request.{Request}
+use Rattle.grid_base.specs.declared.names.CallId.{CallId}
 use Rattle.hand_cell.specs.declared.names.Key.{Key}
 use Rattle.hand_cell.specs.declared.names.NameSet.{NameSet}
 use Rattle.hand_cell.specs.declared.outcome.LiveOutcome.{LiveOutcome}
@@ -9,9 +11,9 @@ use Rattle.hand_cell.specs.Told.{Told, Taken, having_seen, so_far, after_ran}
 use Rattle.hand_cell.specs.Calls.{Enters}
 use Rattle.job_queues.specs.Terms.{Terms}
 use Rattle.job_queues.specs.Answers.{IsWhyNot, IsAnswered}
-use Rattle.partition_threads.specs.Calls.{IsUnderWay, IsServed}
-use Rattle.partition_threads.specs.Turns.{HasRunIt, HasRefusedIt, HasServed, Follows}
-use Rattle.partition_threads.proofs.Going.{none_append}
+use Rattle.job_queues.specs.Calls.{IsUnderWay, IsServed, IsOfCall}
+use Rattle.partition_threads.specs.Turns.{HasRunIt, HasRefusedIt, HasServed, HasDelivered, Follows}
+use Rattle.partition_threads.proofs.Going.{none_append, follows_turn}
 
 module _ {P E : Type 0} (key_of : E → Key) (tells : P → List E → E → LiveOutcome → Type 0) (t : Terms P E) where
   -- the event has been run
@@ -93,3 +95,14 @@ module _ {P E : Type 0} (key_of : E → Key) (tells : P → List E → E → Liv
           let r_is : r ≡ having_seen p (p.seen ++ en.later) = left ∙ (ap (λ (z : Option E). having_seen u.pass (after_ran u.pass.seen z)) h.nothing_ran ∙ ap (λ (z : Told E). having_seen z z.seen) here) in
           subst (IsServed key_of tells t r) (sym h.told)
           (refused p r h.refusal first en.later r_is en.not_own (subst (λ (z : List E). IsWhyNot (length z) h.refusal) (ap (λ (z : Told E). z.seen) en.pass ∙ sym (ap (λ (z : Told E). z.seen) r_is)) h.why))
+
+  -- a turn with a delivery, and a look for the call's outcome
+  pub stepped : {T : Type 0} (call_of : ℕ → Request → ℕ → E) (p : Told E) (s : Taken T E P) (member : ℕ) (id : CallId) (r : Told E) (o : Option LiveOutcome) → IsUnderWay key_of tells t p → s.plan ≡ t.plan → Enters key_of p s
+      → IsOfCall key_of call_of t member id → HasDelivered key_of tells call_of s member id r o → IsServed key_of tells t r o
+  stepped {T} call_of p s member id r o under plan en call has =
+      let u : Taken T E P = record { plan = s.plan; pass = s.pass; value = s.value; ran = has.ran } in
+      let now : IsUnderWay key_of tells t r = goes_on p r under (follows_turn key_of p s u r en refl has.free has.pass_is) in
+      let told = has.told call.request call.now (subst (λ (z : E). Contains r.seen z) call.event (has_event r now)) call.named in
+      looked r o now
+      (subst (λ (z : E). IfSome o (λ x. tells t.plan r.seen z x)) (sym call.event)
+      (subst (λ (z : P). IfSome o (λ x. tells z r.seen (call_of member call.request call.now) x)) plan told))

@@ -4,6 +4,7 @@ ghost use Rattle.hand_cell.specs.declared.names.Key.TheVariants.{Call};
 ghost use Rattle.hand_cell.specs.Names.{has, IsNewKey};
 ghost use Rattle.job_queues.specs.Roster.{roster_of};
 ghost use Rattle.job_queues.specs.Answers.{IsDone};
+ghost use Rattle.job_queues.specs.Calls.{IsNew};
 ghost use Rattle.job_queues.specs.Terms.{Terms};
 ghost use Rattle.partition_threads.specs.Workplaces.{IsTokenAt};
 ghost use Rattle.partition_threads.specs.Starting.{HasStarted, IsUnstarted, IsAwaited};
@@ -11,7 +12,7 @@ ghost use Rattle.partition_threads.specs.Starting.{HasStarted, IsUnstarted, IsAw
 use crate::workplace::Workplace;
 use grid_base::{MemberId, Moment, Request};
 use hand_cell::{Pass, Served};
-use job_queues::{Busy, Done, Job, Parcel, ParcelEnd, QueuePass, Unmade};
+use job_queues::{Busy, Done, Job, NewCall, Parcel, ParcelEnd, QueuePass, Unmade, Work};
 use std::alloc::Global;
 use std::sync::{Arc, Wait};
 
@@ -52,13 +53,43 @@ impl<T: Served> Workplace<T> {
         ensures same { IfOk result (λ _. token.new ≡ token.old) }
         ensures refused { IfErr result (λ why. IsUnstarted pass token.old token.new why) }
     {
-        let cell = &self.cells[usize::from(request.partition)];
-        match Job::new(alloc, cell, pass, member, request, now) {
+        let call = NewCall {
+            pass,
+            member,
+            request,
+            now,
+        };
+        self.start_call(rt, alloc, token, call)
+    }
+
+    /// Hands a call over as `start` does.
+    pub(crate) fn start_call<R: Wait>(
+        &self,
+        rt: &R,
+        alloc: Global,
+        token: &mut QueuePass<T>,
+        call: NewCall<T>,
+    ) -> Result<Awaited<T>, StartRefused<T>>
+        requires token { IsTokenAt self.now (4 * call.member + call.request.partition % 4) token.old }
+        requires call { (terms : Terms T.Plan T.Event) × IsNew T.key_of T.call_of T.fits (roster_of self.now.cells.items) terms call }
+        ensures started { (terms : Terms T.Plan T.Event) → IsNew T.key_of T.call_of T.fits (roster_of self.now.cells.items) terms call
+            → IfOk result (λ awaited. IsAwaited terms awaited) }
+        ensures same { IfOk result (λ _. token.new ≡ token.old) }
+        ensures refused { IfErr result (λ why. IsUnstarted call.pass token.old token.new why) }
+    {
+        let cell = &self.cells[usize::from(call.request.partition)];
+        match Job::new(alloc, cell, call) {
             Ok((job, parcel, end)) => match self.submit(rt, token, job) {
                 Ok(()) => Ok(Awaited { parcel, end }),
-                Err(Busy { job }) => Err(StartRefused::Busy(job.pass)),
+                Err(Busy { job }) => {
+                    let Job { work, .. } = job;
+                    match work {
+                        Work::New(call) => Err(StartRefused::Busy(call.pass)),
+                        Work::Begun(_) => unreachable!(),
+                    }
+                }
             },
-            Err(Unmade { pass }) => Err(StartRefused::Memory(pass)),
+            Err(Unmade { call }) => Err(StartRefused::Memory(call.pass)),
         }
     }
 }

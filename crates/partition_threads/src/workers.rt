@@ -5,15 +5,15 @@ ghost use Rattle.job_queues.specs.Roster.{roster_of};
 ghost use Rattle.job_queues.specs.Jobs.{IsJobFor};
 ghost use Rattle.partition_threads.specs.Calls.{IsHeld, AreHeld};
 ghost use Rattle.partition_threads.specs.Workplaces.{IsTokenAt};
-ghost use Rattle.partition_threads.specs.Workers.{HasLooked, IfBack};
+ghost use Rattle.partition_threads.specs.Workers.{HasLooked};
 
-use crate::calls::{HeldCall, settle};
+use crate::calls::{HeldCall, answer};
 use crate::gate::Gate;
-use crate::turns::{Delivery, call_turn, delivery_turn};
+use crate::turns::{Step, call_turn, delivery_turn};
 use crate::workplace::Workplace;
 use grid_base::Memory;
 use hand_cell::{Runs, Served};
-use job_queues::{Job, QueuePass};
+use job_queues::{Job, QueuePass, Work};
 use std::alloc::Global;
 use std::sync::Wait;
 use std::thread;
@@ -38,42 +38,6 @@ impl<T: Served> WorkerTokens<T> {
     }
 }
 
-/// What became of a call in a turn.
-#[derive(Drop)]
-enum Step<T: Served> {
-    /// Its outcome is known, and was told.
-    Answered,
-    /// A message was delivered, so another may be in flight.
-    Delivered(HeldCall<T>),
-    /// Nothing was.
-    Rests(HeldCall<T>),
-}
-
-fn go_one<T: Served + Runs<N>, N, G: Gate, R: Wait>(
-    rt: &R,
-    alloc: Global,
-    place: &Workplace<T>,
-    env: &N,
-    gate: &G,
-    call: HeldCall<T>,
-) -> Step<T>
-    requires call { IsHeld T.key_of T.tells T.call_of (roster_of place.now.cells.items) call }
-    requires env { All (λ cell. T.means env.now (plan_of cell)) place.now.cells.items }
-    ensures { IfBack (λ held. IsHeld T.key_of T.tells T.call_of (roster_of place.now.cells.items) held) result }
-{
-    let (call, outcome, delivery) = delivery_turn(rt, alloc, place, env, call);
-    if let Delivery::Ran = delivery {
-        place.event_ran(call.partition);
-    }
-    match settle(rt, gate, call, outcome) {
-        None => Step::Answered,
-        Some(call) => match delivery {
-            Delivery::Ran => Step::Delivered(call),
-            Delivery::Nothing | Delivery::NoMemory => Step::Rests(call),
-        },
-    }
-}
-
 /// Delivers what is in flight in a call's partition, a message a turn, until the call's outcome is known. The call
 /// comes back where nothing is in flight and the outcome isn't known, or for want of memory.
 fn go_on<T: Served + Runs<N>, N, G: Gate, R: Wait>(
@@ -82,24 +46,28 @@ fn go_on<T: Served + Runs<N>, N, G: Gate, R: Wait>(
     place: &Workplace<T>,
     env: &N,
     gate: &G,
-    call: HeldCall<T>,
+    held: HeldCall<T>,
 ) -> Option<HeldCall<T>>
-    requires call { IsHeld T.key_of T.tells T.call_of (roster_of place.now.cells.items) call }
+    requires call { IsHeld T.key_of T.tells T.call_of (roster_of place.now.cells.items) held }
     requires env { All (λ cell. T.means env.now (plan_of cell)) place.now.cells.items }
     ensures { IfSome result (λ held. IsHeld T.key_of T.tells T.call_of (roster_of place.now.cells.items) held) }
 {
+    let HeldCall { call, parcel, end } = held;
     let mut going = call;
     for _ in rt.forever() {
-        match go_one(rt, alloc, place, env, gate, going) {
-            Step::Answered => return None,
-            Step::Rests(call) => return Some(call),
+        match delivery_turn(rt, alloc, place, env, going) {
+            Step::Known(call, outcome) => {
+                answer(rt, gate, HeldCall { call, parcel, end }, outcome);
+                return None;
+            }
+            Step::Rests(call) => return Some(HeldCall { call, parcel, end }),
             Step::Delivered(call) => going = call,
         }
     }
     unreachable!()
 }
 
-/// Runs a job's call, and delivers what it sent. The call comes back where it is held.
+/// Runs a job's call, if it hasn't run, and delivers what it sent. The call comes back where it is held.
 fn run_job<T: Served + Runs<N>, N, G: Gate, R: Wait>(
     rt: &R,
     alloc: Global,
@@ -108,15 +76,24 @@ fn run_job<T: Served + Runs<N>, N, G: Gate, R: Wait>(
     gate: &G,
     job: Job<T>,
 ) -> Option<HeldCall<T>>
-    requires job { IsJobFor T.key_of T.call_of T.fits (roster_of place.now.cells.items) job }
+    requires job { IsJobFor T.key_of T.tells T.call_of T.fits (roster_of place.now.cells.items) job }
     requires env { All (λ cell. T.means env.now (plan_of cell)) place.now.cells.items }
     ensures { IfSome result (λ held. IsHeld T.key_of T.tells T.call_of (roster_of place.now.cells.items) held) }
 {
-    let (call, outcome) = call_turn(rt, alloc, place, env, gate, job);
-    place.event_ran(call.partition);
-    match settle(rt, gate, call, outcome) {
-        Some(call) => go_on(rt, alloc, place, env, gate, call),
-        None => None,
+    let Job { work, parcel, end } = job;
+    match work {
+        Work::New(call) => {
+            let (call, outcome) = call_turn(rt, alloc, place, env, gate, call);
+            let held = HeldCall { call, parcel, end };
+            match outcome {
+                Some(outcome) => {
+                    answer(rt, gate, held, outcome);
+                    None
+                }
+                None => go_on(rt, alloc, place, env, gate, held),
+            }
+        }
+        Work::Begun(call) => Some(HeldCall { call, parcel, end }),
     }
 }
 
@@ -140,7 +117,7 @@ fn look_again<T: Served + Runs<N>, N, G: Gate, R: Wait>(
         }
         if has_news(place, &held[next]) {
             let call = held.remove(next);
-            let partition = call.partition;
+            let partition = call.call.partition;
             match go_on(rt, alloc, place, env, gate, call) {
                 Some(call) => held.push_reserved(call),
                 None => place.release(partition),
@@ -152,9 +129,9 @@ fn look_again<T: Served + Runs<N>, N, G: Gate, R: Wait>(
 }
 
 /// Whether a held call is to be looked at.
-fn has_news<T: Served>(place: &Workplace<T>, call: &HeldCall<T>) -> bool {
-    match call.looked {
-        Some(events) => events != place.events(call.partition),
+fn has_news<T: Served>(place: &Workplace<T>, held: &HeldCall<T>) -> bool {
+    match held.call.looked {
+        Some(events) => events != place.events(held.call.partition),
         None => true,
     }
 }
@@ -162,7 +139,7 @@ fn has_news<T: Served>(place: &Workplace<T>, call: &HeldCall<T>) -> bool {
 /// Whether a held call wasn't gone on with for want of memory.
 fn lacks_memory<T: Served>(held: &[HeldCall<T>]) -> bool {
     for call in held.iter() {
-        if call.looked.is_none() {
+        if call.call.looked.is_none() {
             return true;
         }
     }
@@ -180,7 +157,7 @@ enum Looked {
     NoRoom,
 }
 
-/// Takes a job of the queue and runs it, if there is one, and room to hold its call.
+/// Takes a job of the queue and does it, if there is one, and room to hold its call.
 fn take_job<T: Served + Runs<N>, N, G: Gate, R: Wait>(
     rt: &R,
     alloc: Global,
@@ -204,7 +181,7 @@ fn take_job<T: Served + Runs<N>, N, G: Gate, R: Wait>(
         return Looked::Empty;
     };
     if let Some(call) = run_job(rt, alloc, place, env, gate, job) {
-        place.hold(call.partition);
+        place.hold(call.call.partition);
         held.push_reserved(call);
     }
     Looked::Ran

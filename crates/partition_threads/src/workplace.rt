@@ -1,6 +1,6 @@
 //! Where workers work.
 ghost use Rattle.std.specs.Prelude.{◌≡◌, ◌<◌, ◌+◌, ◌*◌, ◌%◌, vec_len, IfOk, OnOk, IfErr};
-ghost use Rattle.job_queues.specs.Jobs.{IsJobFor, WasFull};
+ghost use Rattle.job_queues.specs.Jobs.{IsJobFor, member_of, partition_of};
 ghost use Rattle.job_queues.specs.Roster.{roster_of};
 ghost use Rattle.job_queues.specs.Tokens.{after_full_look};
 ghost use Rattle.partition_threads.specs.Workplaces.{IsTokenAt, AreTokensAt, AreTokensOf};
@@ -77,6 +77,15 @@ impl<T: Served> Workplace<T> {
         self.queues[worker].split(token)
     }
 
+    /// Whether no job waited for a worker at a moment of this call. It waits for nobody: two loads, no memory and no system
+    /// call.
+    pub(crate) fn is_idle(&self, worker: usize, token: &mut QueuePass<T>) -> bool
+        requires { IsTokenAt self.now worker token.old }
+        ensures { token.new ≡ token.old }
+    {
+        self.queues[worker].is_empty(token)
+    }
+
     /// Hands a job over to the worker of its partition at its member, and wakes that worker if it sleeps. The job comes
     /// back as it was only where the queue was full at a moment of this call: the token's count of full looks rises
     /// then, and nowhere else. Constant time and no memory; a system call only where the worker sleeps.
@@ -86,13 +95,13 @@ impl<T: Served> Workplace<T> {
         token: &mut QueuePass<T>,
         job: Job<T>,
     ) -> Result<(), Busy<T>>
-        requires token { IsTokenAt self.now (4 * job.member + job.partition % 4) token.old }
-        requires job { IsJobFor T.key_of T.call_of T.fits (roster_of self.now.cells.items) job }
+        requires token { IsTokenAt self.now (4 * member_of job.work + partition_of job.work % 4) token.old }
+        requires job { IsJobFor T.key_of T.tells T.call_of T.fits (roster_of self.now.cells.items) job }
         ensures ok { OnOk result (token.new ≡ token.old) }
         ensures back { IfErr result (λ busy. busy.job ≡ job) }
         ensures rose { IfErr result (λ _. token.new ≡ after_full_look token.old) }
     {
-        let worker = worker_of(job.member, job.partition);
+        let worker = worker_of(job.work.member(), job.work.partition());
         let put = self.queues[worker].put(rt, token, job);
         if put.is_ok() {
             self.ring(worker);

@@ -16,10 +16,10 @@ use Rattle.session_calls.specs.declared.session.Started.{Started}
 use Rattle.session_calls.specs.Calls.{IsUnderWay, IsSameCall}
 use Rattle.session_calls.specs.Clause.{HasCalled}
 
-module _ {T P E O : Type 0} (key_of : E → Key) (place : Workplace T P E O) (terms : Terms P E) (s : Started T P E O) (under : IsUnderWay key_of place terms s) where
+module _ {P E : Type 0} (key_of : E → Key) (terms : Terms P E) (id : CallId) (key : key_of terms.event ≡ Call id) (named : has terms.first.names (Call id) ≡ true) (unused : IsNewKey key_of (Call id) terms.first.seen) where
   -- the answer is the clause of the call
-  pub called : (tells : P → List E → E → LiveOutcome → Type 0) (pass : Told E) (o : LiveOutcome) → IsAnswered key_of tells terms pass o → HasCalled key_of tells terms s.id pass o
-  called tells pass o answer = record {
+  pub called_as : (tells : P → List E → E → LiveOutcome → Type 0) (pass : Told E) (o : LiveOutcome) → IsAnswered key_of tells terms pass o → HasCalled key_of tells terms id pass o
+  called_as tells pass o answer = record {
     same_table = answer.same_table;
     same_names = answer.same_names;
     later = answer.later;
@@ -27,18 +27,22 @@ module _ {T P E O : Type 0} (key_of : E → Key) (place : Workplace T P E O) (te
     came = ⊎_elim
         (λ (run : HasRun key_of tells terms answer.later o). inl (record {
           event_is = run.event_is;
-          key = under.key;
-          none_earlier = still_new key_of terms.first.names (Call s.id) terms.first.seen run.event_is.before under.named under.unused run.event_is.none_before;
-          none_later = still_new key_of terms.first.names (Call s.id) [] run.event_is.after under.named tt run.event_is.none_after;
+          key = key;
+          none_earlier = still_new key_of terms.first.names (Call id) terms.first.seen run.event_is.before named unused run.event_is.none_before;
+          none_later = still_new key_of terms.first.names (Call id) [] run.event_is.after named tt run.event_is.none_after;
           told = run.told;
         }))
         (λ (not_run : HasNotRun key_of tells terms answer.later o). inr (record {
           none = not_run.none;
-          nowhere = still_new key_of terms.first.names (Call s.id) terms.first.seen answer.later under.named under.unused not_run.none;
+          nowhere = still_new key_of terms.first.names (Call id) terms.first.seen answer.later named unused not_run.none;
           why = not_run.why;
         }))
         answer.came;
   }
+
+module _ {T P E O : Type 0} (key_of : E → Key) (place : Workplace T P E O) (terms : Terms P E) (s : Started T P E O) (under : IsUnderWay key_of place terms s) where
+  pub called : (tells : P → List E → E → LiveOutcome → Type 0) (pass : Told E) (o : LiveOutcome) → IsAnswered key_of tells terms pass o → HasCalled key_of tells terms s.id pass o
+  called = called_as key_of terms s.id under.key under.named under.unused
 
   -- the same call, awaited as before
   pub still_under_way : (again : Started T P E O) → IsAwaited terms again.awaited → IsSameCall s again → IsUnderWay key_of place terms again

@@ -8,10 +8,11 @@ use Rattle.hand_cell.specs.declared.names.Key.TheVariants.{Call}
 use Rattle.hand_cell.specs.declared.outcome.LiveOutcome.{LiveOutcome}
 use Rattle.hand_cell.specs.Names.{Lacks}
 use Rattle.hand_cell.specs.Told.{Told}
+use Rattle.job_queues.specs.Roster.{roster_of}
 use Rattle.partition_threads.specs.declared.workplace.Workplace.{Workplace}
 use Rattle.session_calls.specs.declared.session.SessionPass.{SessionPass}
-use Rattle.session_calls.specs.Clause.{StandsOnce, StandsNowhere}
-use Rattle.session_calls.specs.Learning.{Begins, StandsBefore, HasGrownAt, HasLearnedAt, HasTaughtAt, CallsStandInOrder}
+use Rattle.session_calls.specs.Clause.{HasCalled, StandsOnce, StandsNowhere}
+use Rattle.session_calls.specs.Learning.{Begins, StandsBefore, HasGrownAt, HasLearnedAt, HasTaughtAt, CallsStandInOrder, ReturnedCallsStandInOrder}
 use Rattle.session_calls.proofs.Places.{same_some, none_some, set_there}
 
 -- what was taken from a place, or what came of it, was put back there
@@ -61,17 +62,23 @@ module _ {T P E O : Type 0} (key_of : E → Key) where
       begins_on pass.seen learn.from.seen first.seen (begins_on pass.seen teach.taught.seen learn.from.seen one more) two
 
 module _ {T P E O : Type 0} (key_of : E → Key) (call_of : ℕ → Request → ℕ → E) (tells : P → List E → E → LiveOutcome → Type 0) where
-  pub stand_in_order : (place : Workplace T P E O) → CallsStandInOrder key_of call_of tells place
-  stand_in_order place terms ended old new outcome first after known taught grown teach grow before learned away request now started same learn start again was is answer again_is second =
-      let one = first.called in let two = second.called in
-      let begins = learned_of key_of old new after before learned ended.partition request.partition known taught grown first.pass start.terms.first first.back.passes teach grow same learn start.pass in
+  pub returned_in_order : (place : Workplace T P E O) → ReturnedCallsStandInOrder key_of call_of tells place
+  returned_in_order place terms id partition old new outcome first after known taught grown teach grow before learned request now later_terms same learn terms_are pass answer two =
+      let one = first.called in
+      let begins = learned_of key_of old new after before learned partition request.partition known taught grown first.pass later_terms.first first.back.passes teach grow same learn terms_are.pass in
       ⊎_elim
-      (λ (ran : StandsOnce key_of tells terms ended.id one.later outcome). ⊎_elim
-      (λ (ran' : StandsOnce key_of tells start.terms again.id two.later answer). inr (inr (subst (λ (e : E). StandsBefore terms.event e second.pass.seen) start.event
-      (in_order terms.first.seen one.later ran.event_is.before ran.event_is.after begins.0 second.pass.seen two.later ran'.event_is.before ran'.event_is.after terms.event start.terms.event ran.event_is.whole
+      (λ (ran : StandsOnce key_of tells terms id one.later outcome). ⊎_elim
+      (λ (ran' : StandsOnce key_of tells later_terms request.id two.later answer). inr (inr (subst (λ (e : E). StandsBefore terms.event e pass.seen) terms_are.event
+      (in_order terms.first.seen one.later ran.event_is.before ran.event_is.after begins.0 pass.seen two.later ran'.event_is.before ran'.event_is.after terms.event later_terms.event ran.event_is.whole
       (two.longer ∙ ap (λ (l : List E). l ++ two.later) (begins.1 ∙ ap (λ (l : List E). l ++ begins.0) one.longer))
       ran'.event_is.whole))))
-      (λ (none : StandsNowhere key_of tells start.terms again.id two.later answer). inr (inl (subst (λ (id : CallId). Lacks key_of (Call id) second.pass.seen) (again_is ∙ start.id) (subst (Lacks key_of (Call again.id)) (sym two.longer) none.nowhere))))
+      (λ (none : StandsNowhere key_of tells later_terms request.id two.later answer). inr (inl (subst (Lacks key_of (Call request.id)) (sym two.longer) none.nowhere)))
       two.came)
-      (λ (none : StandsNowhere key_of tells terms ended.id one.later outcome). inl (subst (Lacks key_of (Call ended.id)) (sym one.longer) none.nowhere))
+      (λ (none : StandsNowhere key_of tells terms id one.later outcome). inl (subst (Lacks key_of (Call id)) (sym one.longer) none.nowhere))
       one.came
+
+  pub stand_in_order : (place : Workplace T P E O) → CallsStandInOrder key_of call_of tells place
+  stand_in_order place terms ended old new outcome first after known taught grown teach grow before learned away request now started same learn start again was is answer again_is second =
+      returned_in_order place terms ended.id ended.partition old new outcome first after known taught grown teach grow before learned request now start.terms same learn
+      (record { pass = start.pass; event = start.event; plan = ap (slice_get (roster_of place.cells.items).plans) (sym start.partition) ∙ start.under_way.plan })
+      second.pass answer (subst (λ (id : CallId). HasCalled key_of tells start.terms id second.pass answer) (again_is ∙ start.id) second.called)

@@ -9,4 +9,5 @@ pub mod WholeCalls
 pub mod Places
 mod Refusing
 mod Starting
+mod Taking
 mod Learned

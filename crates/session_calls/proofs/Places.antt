@@ -1,7 +1,8 @@
 -- Lists in which one place was written.
-use Rattle.std.proofs.Common.{◌≡◌, ℕ, ◌<◌, ◌≤◌, zero, suc, ◌⊎◌, inl, inr, ⊎_elim, List, [], ◌∷◌, Option, Some, None, IsSome, slice_get, set, sym, refl, ap, ◌∙◌, arith, rules}
+use Rattle.std.proofs.Common.{◌≡◌, ℕ, ◌<◌, ◌≤◌, zero, suc, ◌⊎◌, inl, inr, ⊎_elim, List, [], ◌∷◌, length, Option, Some, None, IsSome, slice_get, set, sym, refl, ap, ◌∙◌, arith, rules}
 use Rattle.std.proofs.lemmas.Bool.{cases_lt}
-use Rattle.std.proofs.lemmas.List.{set-set}
+use Rattle.std.proofs.lemmas.List.{set-set, length-set}
+use Rattle.std.proofs.lemmas.Option.{slice_get_within}
 
 pub same_some : {A : Type 0} (a b : A) → ◌≡◌ {A = Option A} (Some a) (Some b) → a ≡ b
 same_some a b e = cc
@@ -28,6 +29,12 @@ pub set_same : {A : Type 0} (xs : List A) (i : ℕ) (v : A) → slice_get xs i �
 set_same [] i v e = refl
 set_same (x ∷ xs) zero v e = ap (λ y. y ∷ xs) (sym (same_some x v e))
 set_same (x ∷ xs) (suc i) v e = ap (λ ys. x ∷ ys) (set_same xs i v e)
+
+-- a place where something stood is one of the list still, once it was written
+pub still_within : {A : Type 0} (xs ys : List A) (i : ℕ) (u v : A) → slice_get xs i ≡ Some u → ys ≡ set xs i v → i < length ys
+still_within xs ys i u v e is =
+    let within : i < length xs = slice_get_within xs i u e in
+    let same : length ys ≡ length xs = ap length is ∙ length-set xs i v in omega arith
 
 -- what was taken from a place was put back there
 pub put_back : {A : Type 0} (xs ys zs : List (Option A)) (i : ℕ) (v back : A) → slice_get xs i ≡ Some (Some v) → ys ≡ set xs i None → back ≡ v → zs ≡ set ys i (Some back) → zs ≡ xs

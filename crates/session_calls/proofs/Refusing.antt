@@ -28,7 +28,7 @@ module _ {T P E O : Type 0} (first back : Told E) (token after : Token P) where
 
 module _ {T P E O : Type 0} (place : Workplace T P E O) (s : SessionPass T P E O) (is : IsSessionOf place s) (slot : ℕ) (token after : Token P) (read : token ≡ get_or s.tokens.items (slot % 4) token) where
   -- the token for the partition
-  there : slice_get s.tokens.items (slot % 4) ≡ Some token
+  pub there : slice_get s.tokens.items (slot % 4) ≡ Some token
   there = slice_get_read s.tokens.items 4 (slot % 4) token (sym is.four) small read
     where
       small : slot % 4 < 4

@@ -1,6 +1,7 @@
 -- What a session's calls do.
 use Rattle.std.specs.Prelude.{◌≡◌, ℕ, ◌%◌, true, List, Some, None, slice_get, slice_set}
 use Rattle.grid_base.specs.declared.calls.Request.{Request}
+use Rattle.grid_base.specs.declared.names.CallId.{CallId}
 use Rattle.hand_cell.specs.declared.names.Key.{Key}
 use Rattle.hand_cell.specs.declared.names.Key.TheVariants.{Call}
 use Rattle.hand_cell.specs.declared.outcome.LiveOutcome.{LiveOutcome}
@@ -91,11 +92,15 @@ module _ {T P E O : Type 0} where
     pub same_session : new ≡ old
 
 module _ {T P E O : Type 0} (key_of : E → Key) (tells : P → List E → E → LiveOutcome → Type 0) where
-  -- The call has come to its outcome, and its pass is back
-  pub record IsReady (terms : Terms P E) (started : Started T P E O) (old new : SessionPass T P E O) (outcome : LiveOutcome) : Type 0 where
+  -- The call with this name has come to its outcome, and its pass is back at the partition
+  pub record HasReturned (terms : Terms P E) (id : CallId) (partition : ℕ) (old new : SessionPass T P E O) (outcome : LiveOutcome) : Type 0 where
     pub pass : Told E
-    pub back : HasPassAt old new started.partition (Some pass)
-    pub called : HasCalled key_of tells terms started.id pass outcome
+    pub back : HasPassAt old new partition (Some pass)
+    pub called : HasCalled key_of tells terms id pass outcome
+
+  -- a call that was started has
+  abbrev pub IsReady : Terms P E → Started T P E O → SessionPass T P E O → SessionPass T P E O → LiveOutcome → Type 0
+  IsReady terms started old new outcome = HasReturned terms started.id started.partition old new outcome
 
   abbrev pub HasEnded : Workplace T P E O → Terms P E → Started T P E O → SessionPass T P E O → SessionPass T P E O → Finished T P E O → Type 0
   HasEnded place terms started old new (Ready outcome) = IsReady terms started old new outcome

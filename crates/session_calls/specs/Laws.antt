@@ -4,13 +4,16 @@ use Rattle.grid_base.specs.declared.calls.Request.{Request}
 use Rattle.hand_cell.specs.declared.names.Key.{Key}
 use Rattle.hand_cell.specs.declared.outcome.LiveOutcome.{LiveOutcome}
 use Rattle.hand_cell.specs.Told.{Told}
+use Rattle.job_queues.specs.declared.call.BegunCall.{BegunCall}
 use Rattle.job_queues.specs.Roster.{Roster, roster_of}
 use Rattle.job_queues.specs.Terms.{Terms}
 use Rattle.partition_threads.specs.declared.workplace.Workplace.{Workplace}
 use Rattle.session_calls.specs.declared.session.SessionPass.{SessionPass}
 use Rattle.session_calls.specs.declared.session.Started.{Started}
-use Rattle.session_calls.specs.Calls.{HasStarted, MayFinish, IsSameCall, IsReady, IsNotYet}
+use Rattle.session_calls.specs.declared.calls.Unstarted.{Unstarted}
+use Rattle.session_calls.specs.Calls.{HasStarted, MayFinish, IsSameCall, HasReturned, IsReady, IsNotYet}
 use Rattle.session_calls.specs.Clause.{HasCalled}
+use Rattle.session_calls.specs.Making.{AreTermsOf, MayGoOn, IsHandedOver, IsKeptStill, IsKept}
 use Rattle.session_calls.specs.Sessions.{pass_at, HasPassAt}
 
 module _ {T P E O : Type 0} (key_of : E → Key) where
@@ -48,3 +51,28 @@ module _ {T P E O : Type 0} (key_of : E → Key) (call_of : ℕ → Request → 
       → (again : Started T P E O) → IsSameCall started again
       → (old new : SessionPass T P E O) (outcome : LiveOutcome) → IsReady key_of tells start.terms again old new outcome
       → IsCallBack place before.member request now first old new outcome
+
+  -- A call of a session was made on its terms, at once or not, and came to its outcome (old, new), whatever the session did between: then it is
+  -- the outcome of that request, at that member and moment, with the pass that was there before
+  abbrev pub CallsEndOnTheirTerms : Workplace T P E O → Type 0
+  CallsEndOnTheirTerms place = (before : SessionPass T P E O) (request : Request) (now : ℕ) (terms : Terms P E) → AreTermsOf call_of place before request now terms
+      → (first : Told E) → pass_at before request.partition ≡ Some (Some first)
+      → (old new : SessionPass T P E O) (outcome : LiveOutcome) → HasReturned key_of tells terms request.id request.partition old new outcome
+      → IsCallBack place before.member request now first old new outcome
+
+  -- a session may go on with a call that it keeps
+  abbrev pub KeptMayGoOn : Workplace T P E O → Type 0
+  KeptMayGoOn place = (before new : SessionPass T P E O) (request : Request) (now : ℕ) (call : BegunCall T P E O) (why : Unstarted)
+      → (kept : IsKept key_of call_of tells place before new request now call why) → MayGoOn key_of call_of tells place kept.terms new call
+
+  -- and again with one that it keeps still
+  abbrev pub StillKeptMayGoOn : Workplace T P E O → Type 0
+  StillKeptMayGoOn place = (terms : Terms P E) (old new : SessionPass T P E O) (call again : BegunCall T P E O) (why : Unstarted)
+      → MayGoOn key_of call_of tells place terms old call → IsKeptStill key_of call_of tells place terms call.id call.partition old new again why
+      → MayGoOn key_of call_of tells place terms new again
+
+  -- and may finish one that was handed over
+  abbrev pub HandedOverMayFinish : Workplace T P E O → Type 0
+  HandedOverMayFinish place = (terms : Terms P E) (old new : SessionPass T P E O) (call : BegunCall T P E O) (started : Started T P E O)
+      → MayGoOn key_of call_of tells place terms old call → IsHandedOver key_of call_of tells place terms call.id call.partition old new started
+      → MayFinish key_of place terms new started

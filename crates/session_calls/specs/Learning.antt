@@ -12,7 +12,9 @@ use Rattle.job_queues.specs.Terms.{Terms}
 use Rattle.partition_threads.specs.declared.workplace.Workplace.{Workplace}
 use Rattle.session_calls.specs.declared.session.SessionPass.{SessionPass}
 use Rattle.session_calls.specs.declared.session.Started.{Started}
-use Rattle.session_calls.specs.Calls.{HasStarted, IsReady}
+use Rattle.session_calls.specs.Calls.{HasStarted, HasReturned, IsReady}
+use Rattle.session_calls.specs.Clause.{HasCalled}
+use Rattle.session_calls.specs.Making.{AreTermsOf}
 use Rattle.session_calls.specs.Sessions.{pass_at, HasPassAt}
 
 module _ {E : Type 0} where
@@ -91,3 +93,15 @@ module _ {T P E O : Type 0} (key_of : E → Key) (call_of : ℕ → Request → 
       → (again : Started T P E O) (was is : SessionPass T P E O) (answer : LiveOutcome) → again.id ≡ started.id
       → (second : IsReady key_of tells start.terms again was is answer)
       → StandInOrder key_of ended.id first.pass.seen request.id second.pass.seen terms.event (call_of learned.member request now)
+
+  -- The same of calls on their terms, be they started or made at once: the first one had its outcome (old, new), and the second one's pass is
+  -- back
+  abbrev pub ReturnedCallsStandInOrder : Workplace T P E O → Type 0
+  ReturnedCallsStandInOrder place = (terms : Terms P E) (id : CallId) (partition : ℕ) (old new : SessionPass T P E O) (outcome : LiveOutcome)
+      → (first : HasReturned key_of tells terms id partition old new outcome)
+      → (after : SessionPass T P E O) (known taught grown : List (Told E)) → HasTaughtAt key_of new after partition known taught
+      → HasGrownAt partition taught grown
+      → (before learned : SessionPass T P E O) (request : Request) (now : ℕ) (later_terms : Terms P E) → request.partition ≡ partition
+      → HasLearnedAt key_of grown before learned request.partition → AreTermsOf call_of place learned request now later_terms
+      → (pass : Told E) (answer : LiveOutcome) → HasCalled key_of tells later_terms request.id pass answer
+      → StandInOrder key_of id first.pass.seen request.id pass.seen terms.event (call_of learned.member request now)

@@ -3,5 +3,6 @@ pub mod Sessions
 pub mod Openings
 pub mod Clause
 pub mod Calls
+pub mod Making
 pub mod Laws
 pub mod Learning

@@ -11,12 +11,15 @@ use hand_cell::{LiveOutcome, Pass, Served};
 use partition_threads::{Awaited, StartRefused, THREADS, Workplace};
 use std::alloc::Global;
 use std::sync::Wait;
+use thiserror::Error;
 
 /// Why a call wasn't started.
-#[derive(Clone, Copy, Debug, PartialEq, Eq)]
+#[derive(Clone, Copy, Debug, PartialEq, Eq, Error)]
 pub enum Unstarted {
     /// The worker's queue was full at a moment of the call.
+    #[error("the worker's queue was full")]
     Busy,
+    #[error("there is no memory to start the call")]
     Memory,
 }
 
@@ -104,7 +107,7 @@ impl<T: Served> SessionPass<T> {
 }
 
 /// The pass of a call that wasn't started, and why it wasn't.
-fn given_back<T: Served>(refused: StartRefused<T>) -> (Pass<T>, Unstarted)
+pub(crate) fn given_back<T: Served>(refused: StartRefused<T>) -> (Pass<T>, Unstarted)
     ensures { IsGivenBack refused result.0 result.1 }
 {
     match refused {

@@ -1,4 +1,4 @@
-//! Calls through a queue of jobs and back, one after another: one client and one worker.
+//! Calls through a queue of jobs and back, or made where they come from, one after another: one client and one worker.
 ghost use Rattle.std.specs.Prelude.{◌≡◌, ◌<◌, ◌+◌, [], true, Some, slice_get, vec_len, IfOk};
 ghost use Rattle.hand_cell.specs.declared.names.Key.TheVariants.{Call};
 ghost use Rattle.hand_cell.specs.Names.{has};
@@ -12,7 +12,7 @@ use crate::pace::{Pace, nanos_since};
 use grid_base::{Bytes, CallId, GridCall, Memory, QueueCall, Request};
 use hand_cell::{Cell, Names, Pass};
 use job_queues::QueuePass;
-use partition_threads::{OpenGate, WorkerTokens, Workplace, worker};
+use partition_threads::{Made, OpenGate, WorkerTokens, Workplace, worker};
 use std::alloc::{AllocError, Global};
 use std::io;
 use std::rt::Clock;
@@ -22,6 +22,15 @@ use std::time::Instant;
 
 /// How many jobs the queue holds, and how many calls the worker.
 const ROOM: usize = 16;
+
+/// Who runs the client's calls.
+#[derive(Clone, Copy)]
+pub enum Runner {
+    /// The worker, to which they are handed over.
+    Worker,
+    /// The client itself, where nobody is before it.
+    Client,
+}
 
 /// A workplace over one cell with one worker, what the worker holds, and what the client does.
 struct Opened {
@@ -76,8 +85,8 @@ fn first_request(alloc: Global, conn: u32) -> Request
     }
 }
 
-/// Makes the first call of a connection, and waits for its answer.
-fn call<R: Wait>(
+/// Hands the first call of a connection over, and waits for its answer.
+fn hand_over<R: Wait>(
     rt: &R,
     alloc: Global,
     place: &Workplace<Echo>,
@@ -100,6 +109,54 @@ fn call<R: Wait>(
     }
 }
 
+/// Makes the first call of a connection at once, where that can be, and waits for its answer where it was handed over.
+fn make<R: Wait>(
+    rt: &R,
+    alloc: Global,
+    place: &Workplace<Echo>,
+    token: &mut QueuePass<Echo>,
+    pass: Pass<Echo>,
+    conn: u32,
+) -> Result<(), Memory>
+    requires token { IsTokenAt place.now 0 token.old }
+    requires cell { slice_get (roster_of place.now.cells.items).tables 0 ≡ Some pass.table }
+    requires named { has pass.names (Call (first_call conn)) ≡ true }
+    requires unused { pass.seen ≡ [] }
+    ensures token { IsTokenAt place.now 0 token.new }
+{
+    let request = first_request(alloc, conn);
+    match place.make(rt, alloc, &(), &OpenGate, token, pass, 0, request, 0) {
+        Ok(Made::Done(_)) => Ok(()),
+        Ok(Made::Started(awaited)) => {
+            awaited.wait(rt);
+            Ok(())
+        }
+        Ok(Made::Kept(_, _)) | Err(_) => Err(AllocError),
+    }
+}
+
+/// Makes the first call of a connection, and waits for its answer.
+fn call<R: Wait>(
+    rt: &R,
+    alloc: Global,
+    place: &Workplace<Echo>,
+    token: &mut QueuePass<Echo>,
+    pass: Pass<Echo>,
+    conn: u32,
+    runner: Runner,
+) -> Result<(), Memory>
+    requires token { IsTokenAt place.now 0 token.old }
+    requires cell { slice_get (roster_of place.now.cells.items).tables 0 ≡ Some pass.table }
+    requires named { has pass.names (Call (first_call conn)) ≡ true }
+    requires unused { pass.seen ≡ [] }
+    ensures token { IsTokenAt place.now 0 token.new }
+{
+    match runner {
+        Runner::Worker => hand_over(rt, alloc, place, token, pass, conn),
+        Runner::Client => make(rt, alloc, place, token, pass, conn),
+    }
+}
+
 /// Makes the call of the next connection, and gives how many nanoseconds it took.
 fn call_next<R: Wait + Clock>(
     rt: &R,
@@ -108,6 +165,7 @@ fn call_next<R: Wait + Clock>(
     token: &mut QueuePass<Echo>,
     base: &mut Pass<Echo>,
     conn: u32,
+    runner: Runner,
 ) -> io::Result<u64>
     requires token { IsTokenAt place.now 0 token.old }
     requires base { IsBase place.now conn base.old }
@@ -116,7 +174,7 @@ fn call_next<R: Wait + Clock>(
 {
     let pass = place.cells[0].split(base, Names::One(conn));
     let start = Instant::now(rt)?;
-    call(rt, alloc, place, token, pass, conn)?;
+    call(rt, alloc, place, token, pass, conn, runner)?;
     nanos_since(rt, start)
 }
 
@@ -128,6 +186,7 @@ fn call_each<R: Wait + Clock>(
     mine: QueuePass<Echo>,
     base: Pass<Echo>,
     pace: Pace,
+    runner: Runner,
 ) -> io::Result<Vec<u64>>
     requires { MayCall place.now mine base }
 {
@@ -136,7 +195,7 @@ fn call_each<R: Wait + Clock>(
     let mut times = Vec::new(alloc);
     for conn in 0..pace.calls {
         pace.rest(rt);
-        times.push(call_next(rt, alloc, place, &mut token, &mut base, conn)?)?;
+        times.push(call_next(rt, alloc, place, &mut token, &mut base, conn, runner)?)?;
     }
     Ok(times)
 }
@@ -150,11 +209,12 @@ fn work<R: Wait>(rt: &R, alloc: Global, place: &Workplace<Echo>, queue: QueuePas
     }
 }
 
-/// Makes so many calls through a queue, and gives how many nanoseconds each took.
-pub fn through_queue<R: Threads + Wait + Clock + Sync>(
+/// Makes so many calls, while a worker stands by, and gives how many nanoseconds each took.
+pub fn one_by_one<R: Threads + Wait + Clock + Sync>(
     rt: &R,
     alloc: Global,
     pace: Pace,
+    runner: Runner,
 ) -> io::Result<Vec<u64>> {
     let Opened {
         place,
@@ -167,7 +227,7 @@ pub fn through_queue<R: Threads + Wait + Clock + Sync>(
         || -> io::Result<Vec<u64>>
             requires { MayCall place mine base }
         {
-            let times = call_each(rt, alloc, &place, mine, base, pace);
+            let times = call_each(rt, alloc, &place, mine, base, pace, runner);
             place.stop();
             times
         },

@@ -4,9 +4,10 @@
 //! counter (`shared`) or each on its own (`apart`), and prints how many were counted. With no words it tries each for
 //! 100 turns.
 //!
-//! `turns_bench calls queue|lock busy|parked CALLS` has a thread make so many calls, one after another, which another thread
-//! answers: through a queue of jobs and parcels, or through a mutex and a condition variable for each way. `parked` has the
-//! other sleep before each. It prints how many calls a second there were, and what 50 and 99 of 100 took at most.
+//! `turns_bench calls queue|once|lock busy|parked CALLS` has a thread make so many calls, one after another, which another
+//! thread answers: through a queue of jobs and parcels, or through a mutex and a condition variable for each way. By `once`
+//! the first thread makes them itself, while the worker of the queue stands by. `parked` has the other sleep before each. It
+//! prints how many calls a second there were, and what 50 and 99 of 100 took at most.
 #![tactic(auto)]
 
 mod calls;
@@ -17,6 +18,7 @@ mod mailbox;
 mod pace;
 mod ticks;
 
+use calls::Runner;
 use grid_base::Memory;
 use pace::{Pace, Summary};
 use std::alloc::{AllocError, Global};
@@ -27,7 +29,7 @@ use std::thread::Threads;
 use std::{env, io};
 
 const USAGE: &str =
-    "usage: turns_bench [cell|lock one|shared|apart TURNS | calls queue|lock busy|parked CALLS]";
+    "usage: turns_bench [cell|lock one|shared|apart TURNS | calls queue|once|lock busy|parked CALLS]";
 
 /// The turns of each thread where no number is given.
 const FEW: u32 = 100;
@@ -146,10 +148,12 @@ fn report_each<R: Threads + Wait + Sync + Print>(rt: &R, alloc: Global) -> io::R
     Ok(())
 }
 
-/// By what calls go to the other thread and back.
+/// By what calls go to the other thread and back, if they do.
 #[derive(Clone, Copy)]
 enum Way {
     Queue,
+    /// They are made at once.
+    Once,
     Lock,
 }
 
@@ -157,6 +161,7 @@ impl Way {
     fn name(self) -> &'static str {
         match self {
             Way::Queue => "queue",
+            Way::Once => "once",
             Way::Lock => "lock",
         }
     }
@@ -179,6 +184,7 @@ impl CallTrial {
         }
         let way = match way.as_str() {
             "queue" => Way::Queue,
+            "once" => Way::Once,
             "lock" => Way::Lock,
             _ => return None,
         };
@@ -201,7 +207,8 @@ impl CallTrial {
         alloc: Global,
     ) -> io::Result<Vec<u64>> {
         match self.way {
-            Way::Queue => calls::through_queue(rt, alloc, self.pace),
+            Way::Queue => calls::one_by_one(rt, alloc, self.pace, Runner::Worker),
+            Way::Once => calls::one_by_one(rt, alloc, self.pace, Runner::Client),
             Way::Lock => mailbox::through_mailbox(rt, alloc, self.pace),
         }
     }
@@ -231,7 +238,7 @@ fn report_each_way<R: Threads + Wait + Clock + Sync + Print>(
     rt: &R,
     alloc: Global,
 ) -> io::Result<()> {
-    for way in [Way::Queue, Way::Lock] {
+    for way in [Way::Queue, Way::Once, Way::Lock] {
         for parked in [false, true] {
             let pace = Pace { calls: FEW, parked };
             let count = CallTrial { way, pace }.times(rt, alloc)?.len();
