@@ -30,7 +30,7 @@ pub waited_as : (forms : List ProcessorForm) (told status : Status) (first now :
 waited_as forms told status first now before after same printed = subst (λ (s : Status). PrintsWaits forms s first now before after) (sym same) printed
 
 -- the same of a sample, whose number is the one that the words give
-pub sampled_as : (asked number : ℕ) (forms : List Form) (before after : Operator) (outside closed : AtDoors) (ended : Ended) → asked ≡ number → after.script ≡ before.script → closed ≡ outside
+pub sampled_as : {D : Type 0} (asked number : ℕ) (forms : List Form) (before after : Operator) (outside closed : AtDoors) (ended : Ended D) → asked ≡ number → after.script ≡ before.script → closed ≡ outside
     → HasSampled asked forms ended.status ended.grid before.out.bytes after.out.bytes before.out.faults after.out.faults → HasSampledBy number forms before after outside closed ended
 sampled_as asked number forms before after outside closed ended same unread unopened sampled = record {
   unread = unread;

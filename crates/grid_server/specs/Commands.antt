@@ -12,9 +12,10 @@ use Rattle.grid_edge.specs.Faults.{Rose}
 use Rattle.live_grid.specs.declared.grid.GridPass.{GridPass}
 use Rattle.live_grid.specs.declared.grid.LiveGrid.{LiveGrid}
 use Rattle.live_grid.specs.Grids.{place_of}
-use Rattle.live_grid.specs.Histories.{live_key}
-use Rattle.live_session.specs.declared.note.CallNote.{CallNote}
-use Rattle.live_server.specs.Order.{KeepsOrder}
+use Rattle.live_grid.specs.Histories.{live_key, live_call}
+use Rattle.live_grid.specs.Outcomes.{LiveTells}
+use Rattle.loop_journal.specs.declared.entry.Entry.{Entry}
+use Rattle.live_server.specs.Times.{AnswersStandFirst}
 use Rattle.served_history_laws.specs.Histories.{TellsHistories}
 use Rattle.serve_options.specs.declared.options.ServeOptions.{ServeOptions}
 use Rattle.serve_options.specs.Options.{Words, AreOptions, faults}
@@ -69,28 +70,31 @@ pub record IsNotBegun (words : Words) (status : Status) (before after : Operator
   pub none_came : NoneCame outside closed
   pub cause : IsNoGridFor status words outside closed
 
--- A grid was made by the options that the words give, and has served to its end
-pub record HasServedFrom (words : Words) (forms : List Form) (given : List ℕ) (before after : Operator) (outside closed : AtDoors) (status : Status) (grid : LiveGrid) (pass : GridPass) (notes : List CallNote) : Type 0 where
-  pub options : ServeOptions
-  pub read : AreOptions words options
-  pub served : HasServed options forms given before after outside closed status grid pass notes
+module _ {D : Type 0} (empty_looks : D → ℕ) where
+  -- A grid was made by the options that the words give, and has served to its end
+  pub record HasServedFrom (words : Words) (forms : List Form) (given : List ℕ) (before after : Operator) (outside closed : AtDoors)
+      (status : Status) (grid : LiveGrid) (pass : GridPass) (journal : List Entry) (closing : Option D) : Type 0 where
+    pub options : ServeOptions
+    pub read : AreOptions words options
+    pub served : HasServed empty_looks options forms given before after outside closed status grid pass journal closing
 
--- How a server has ended that was to be started by these words: it made a grid, or it has not begun
-pub record HasEnded (words : Words) (forms : List Form) (given : List ℕ) (before after : Operator) (outside closed : AtDoors) (ended : Ended) : Type 0 where
-  pub served : IfSome ended.grid (λ held. HasServedFrom words forms given before after outside closed ended.status held.0 held.1 ended.notes)
-  pub not_begun : IfNone ended.grid (IsNotBegun words ended.status before after outside closed)
+  -- How a server has ended that was to be started by these words: it made a grid, or it has not begun
+  pub record HasEnded (words : Words) (forms : List Form) (given : List ℕ) (before after : Operator) (outside closed : AtDoors) (ended : Ended D) : Type 0 where
+    pub served : IfSome ended.grid (λ held. HasServedFrom words forms given before after outside closed ended.status held.0 held.1 ended.journal ended.closed)
+    pub not_begun : IfNone ended.grid (IsNotBegun words ended.status before after outside closed)
 
--- The grid, if one is handed back with a pass, has served clients whose calls stand in the histories that the pass has seen
-abbrev pub ServesHistories : (given : List ℕ) → Book → Option (LiveGrid × GridPass) → Type 0
-ServesHistories given book grid = IfSome grid (λ held. TellsHistories (place_of held.0) given held.1.passes.items book)
+-- The grid, if one is handed back with a pass, has served clients whose calls stand in the histories that the pass has seen. By this journal stands what was
+-- read from them and written to them
+abbrev pub ServesHistories : (given : List ℕ) → List Entry → Book → Option (LiveGrid × GridPass) → Type 0
+ServesHistories given journal book grid = IfSome grid (λ held. TellsHistories (place_of held.0) given journal held.1.passes.items book)
 
--- Of two calls of one partition, made by any two clients of the grid, if one is handed back with a pass: the one whose outcome was found before the other
--- was started stands first in what the pass has seen
-abbrev pub ServesInOrder : List CallNote → Option (LiveGrid × GridPass) → Type 0
-ServesInOrder notes grid = IfSome grid (λ held. KeepsOrder live_key notes held.1.passes.items)
+-- Of two calls of one partition, made by any clients of the grid, if one is handed back with a pass: where some byte of the answer to the one was written
+-- before the last byte of the other was read, by this journal, its event stands first in what the pass has seen
+abbrev pub ServesInOrder : (given : List ℕ) → List Entry → Book → Option (LiveGrid × GridPass) → Type 0
+ServesInOrder given journal book grid = IfSome grid (λ held. AnswersStandFirst live_key LiveTells live_call (place_of held.0) given journal held.1.passes.items book)
 
 -- What a sample of this number comes to: no script is read, and no door is opened
-pub record HasSampledBy (number : ℕ) (forms : List Form) (before after : Operator) (outside closed : AtDoors) (ended : Ended) : Type 0 where
+pub record HasSampledBy {D : Type 0} (number : ℕ) (forms : List Form) (before after : Operator) (outside closed : AtDoors) (ended : Ended D) : Type 0 where
   pub unread : after.script ≡ before.script
   pub unopened : closed ≡ outside
   pub sampled : HasSampled number forms ended.status ended.grid before.out.bytes after.out.bytes before.out.faults after.out.faults

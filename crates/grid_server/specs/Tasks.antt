@@ -1,5 +1,5 @@
 -- What the tasks of a server do.
-use Rattle.std.specs.Prelude.{◌≡◌, ℕ, ◌≤◌, List, length, Option, IfSome, IfNone, Result, OnOk}
+use Rattle.std.specs.Prelude.{◌≡◌, ℕ, ◌≤◌, List, length, Option, IfSome, IfNone, Result, IfOk}
 use Rattle.grid_base.specs.declared.calls.Request.{Request}
 use Rattle.call_engine.specs.Limits.{RequestFits}
 use Rattle.grid_cli.specs.declared.status.Status.{Status}
@@ -21,10 +21,10 @@ use Rattle.live_control.specs.Serving.{HasServed as HasControlled}
 use Rattle.live_server.specs.declared.connections.Connections.{Connections}
 use Rattle.live_server.specs.Order.{KeepsOrder}
 use Rattle.live_server.specs.Serving.{HasServedAll}
-use Rattle.live_server.specs.Standing.{MayServe, Rests}
+use Rattle.live_server.specs.Standing.{MayServe, HasLetAllIn, Rests}
 use Rattle.live_session.specs.Connections.{ServesCalls}
 use Rattle.serve_options.specs.declared.options.ServeOptions.{ServeOptions}
-use Rattle.grid_server.specs.Serving.{Operator, AtDoors, AreAllLetIn}
+use Rattle.grid_server.specs.Serving.{Operator, AtDoors}
 
 -- The operator's script may be run, and clients may be served
 pub record MayMeet {F K : Type 0} (options : ServeOptions) (grid : LiveGrid) (book : Book) (connections : Connections LiveWorld F K GridPlan (Event Request) Happened) (pass : GridPass) : Type 0 where
@@ -34,11 +34,12 @@ pub record MayMeet {F K : Type 0} (options : ServeOptions) (grid : LiveGrid) (bo
   pub calls : ServesCalls RequestFits (place_of grid)
   pub may : MayServe live_key (place_of grid) connections book
 
--- The clients that came through the doors were served, and no connection is left. The doors stand open as they did
-pub record HasServedClients {F K : Type 0} (grid : LiveGrid) (given : List ℕ) (connections : Connections LiveWorld F K GridPlan (Event Request) Happened) (opened closed : AtDoors) (ended : Result (Unit {0}) DoorFault) : Type 0 where
-  pub clients : HasServedAll live_key LiveTells live_call (place_of grid) given connections.passes.items closed.book
-  pub in_order : KeepsOrder live_key connections.notes connections.passes.items
-  pub let_in : OnOk ended (AreAllLetIn opened.looks closed.looks (length closed.book.arrivals))
+-- The clients that came through the doors were served, and no connection is left. The doors stand open as they did. Since the closing was seen that is
+-- answered, all were let in who had come by then
+pub record HasServedClients {F K D : Type 0} (empty_looks : D → ℕ) (grid : LiveGrid) (given : List ℕ) (connections : Connections LiveWorld F K GridPlan (Event Request) Happened) (opened closed : AtDoors) (ended : Result D DoorFault) : Type 0 where
+  pub clients : HasServedAll live_key LiveTells live_call (place_of grid) given connections.journal connections.passes.items closed.book
+  pub in_order : KeepsOrder live_key connections.journal connections.passes.items
+  pub let_in : IfOk ended (λ closing. HasLetAllIn opened.looks (empty_looks closing) closed.looks (length closed.book.arrivals))
   pub rests : Rests (place_of grid) connections
   pub opening : closed.book.opening ≡ opened.book.opening
   pub cause : HasCause opened.faults closed.faults ended
@@ -51,8 +52,8 @@ pub record HasOperated (grid : LiveGrid) (members : ℕ) (status : Status) (befo
   pub kept : MayControl grid new
 
 -- Clients were served and the operator heard, or else a worker had no thread, and nothing was done
-pub record HasMet {F K : Type 0} (grid : LiveGrid) (given : List ℕ) (members : ℕ) (connections : Connections LiveWorld F K GridPlan (Event Request) Happened) (opened closed : AtDoors) (before after : Operator) (old new : GridPass) (met : Option (Result (Unit {0}) DoorFault × Status)) : Type 0 where
-  pub served : IfSome met (λ ended. HasServedClients grid given connections opened closed ended.0)
+pub record HasMet {F K D : Type 0} (empty_looks : D → ℕ) (grid : LiveGrid) (given : List ℕ) (members : ℕ) (connections : Connections LiveWorld F K GridPlan (Event Request) Happened) (opened closed : AtDoors) (before after : Operator) (old new : GridPass) (met : Option (Result D DoorFault × Status)) : Type 0 where
+  pub served : IfSome met (λ ended. HasServedClients empty_looks grid given connections opened closed ended.0)
   pub operated : IfSome met (λ ended. HasOperated grid members ended.1 before after old new)
   pub untouched : IfNone met (after ≡ before)
   pub none_came : IfNone met (closed ≡ opened)

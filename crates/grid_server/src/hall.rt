@@ -10,34 +10,23 @@ ghost use Rattle.grid_server.specs.Tasks.{HasServedClients};
 use crate::stage::Stage;
 use grid_edge::{Clock, DoorFault, Doors};
 use live_grid::{Environment, LiveWorld};
-use live_server::{Connections, serve};
+use live_server::{Closed, Connections, serve};
 use std::sync::Wait;
 
-/// Serves the clients that come through the doors.
+/// Serves the clients that come through the doors. Answers its closing as it was seen.
 pub(crate) fn serve_hall<N: Environment, C: Clock, D: Doors, R: Wait>(
     rt: &R,
     stage: &Stage<N, D::Waker>,
     clock: &mut C,
     connections: &mut Connections<LiveWorld, D::From, D::To>,
     doors: &mut D,
-) -> Result<(), DoorFault>
+) -> Result<Closed<D>, DoorFault>
     requires calls { ServesCalls RequestFits (place_of stage.now.grid) }
     requires may { MayServe live_key (place_of stage.now.grid) connections.old (D.book doors.old) }
-    ensures served { HasServedClients stage.now.grid (C.given clock.new) connections.new
+    ensures served { HasServedClients D.empty_looks stage.now.grid (C.given clock.new) connections.new
         (at_doors (D.book doors.old) (D.empty_looks doors.old) (D.faults doors.old))
         (at_doors (D.book doors.new) (D.empty_looks doors.new) (D.faults doors.new)) result }
 {
-    let ended = serve(
-        rt,
-        stage.alloc,
-        stage.grid.workplace(),
-        connections,
-        doors,
-        clock,
-        &stage.closing,
-    );
-    match ended {
-        Ok(_closed) => Ok(()),
-        Err(fault) => Err(fault),
-    }
+    let (alloc, place, closing) = (stage.alloc, stage.grid.workplace(), &stage.closing);
+    serve(rt, alloc, place, connections, doors, clock, closing)
 }

@@ -10,7 +10,7 @@ use call_engine::GridEnv;
 use entry_processors::{Form, Processor, Registry};
 use grid_edge::Sink;
 use grid_sample::{CAPACITY, Watch, run_sample};
-use live_session::CallNotes;
+use loop_journal::Journal;
 use script_lang::number_within as read_within;
 use std::alloc::Global;
 use std::sync::Wait;
@@ -45,7 +45,7 @@ pub(crate) fn sample_number(words: &[String]) -> Option<u32>
 
 /// Prints what became of the script that is made from the number, and then what four sessions' calls come to on a live grid
 /// with these processors. Where it is done it hands the grid back.
-pub fn sample_command<R, K, W>(
+pub fn sample_command<R, K, W, D>(
     rt: &R,
     alloc: Global,
     number: u32,
@@ -53,7 +53,7 @@ pub fn sample_command<R, K, W>(
     forms: &[Form],
     out: &mut K,
     watch: &W,
-) -> Ended
+) -> Ended<D>
 where
     R: Threads + Wait + Sync,
     K: Sink,
@@ -69,6 +69,7 @@ where
     Ended {
         status,
         grid,
-        notes: CallNotes::new(),
+        journal: Journal::new(),
+        closed: None,
     }
 }

@@ -1,7 +1,8 @@
 //! The command `serve`.
-ghost use Rattle.std.specs.Prelude.{◌≡◌, ◌⊎◌, ◌≤◌, ◌+◌, ◌*◌, [], All, List, map, OnOk, OnErr, IfErr, IfSome, IfNone};
+ghost use Rattle.std.specs.Prelude.{◌≡◌, ◌⊎◌, ◌≤◌, ◌+◌, ◌*◌, [], All, List, map, Some, None, OnOk, OnErr, IfOk, IfErr, IsSomeAnd, IfSome, IfNone};
 ghost use Rattle.entry_processors.specs.Forms.{form_of};
 ghost use Rattle.entry_processors.specs.declared.form.Form.{Form as FormOf};
+ghost use Rattle.grid_cli.specs.declared.status.Status.TheVariants.{DoorFault as FaultOfDoors};
 ghost use Rattle.grid_edge.specs.Faults.{HasCause};
 ghost use Rattle.hand_cell.specs.Calls.{plan_of};
 ghost use Rattle.live_grid.specs.Grids.{place_of};
@@ -20,9 +21,11 @@ use call_engine::GridEnv;
 use entry_processors::{Form, Processor, Registry};
 use grid_cli::Status;
 use grid_edge::{Clock, DoorFault, Doors, Sink, Source};
-use live_grid::{Environment, GridPass, LiveGrid, LiveWorld, Shared};
-use live_server::{every_noted_order_stays_so, every_served_connection_stays_so};
-use live_session::CallNotes;
+use live_grid::{Environment, GridPass, LiveWorld, Shared};
+use live_server::{
+    Closed, every_answer_before_a_call_stands_first, every_noted_order_stays_so,
+    every_served_connection_stays_so,
+};
 use partition_threads::{Gate, OpenGate, THREADS};
 use serve_options::{OptionsRefused, ServeOptions, read_options};
 use served_history_laws::every_served_call_stands_in_a_legal_history;
@@ -30,6 +33,17 @@ use std::alloc::Global;
 use std::sync::Wait;
 use std::thread::Threads;
 use thread_crew::{Room, room_for};
+
+/// How a server ended whose script was told to be done so: as that, with the closing as it was seen, or by a fault of its doors.
+fn ending<D>(told: Status, ended: Result<Closed<D>, DoorFault>) -> (Status, Option<Closed<D>>)
+    ensures closed { IfOk ended (λ closed. (result.0 ≡ told) × (result.1 ≡ Some closed)) }
+    ensures fault { OnErr ended ((result.0 ≡ FaultOfDoors) × (result.1 ≡ None)) }
+{
+    match ended {
+        Ok(closed) => (told, Some(closed)),
+        Err(DoorFault) => (Status::DoorFault, None),
+    }
+}
 
 /// Runs a server on its threads to its end, in a setting in which nothing has happened. The doors were just opened. Where a thread
 /// can't be made it doesn't look at the script, and if it's one of a worker it does nothing.
@@ -45,7 +59,7 @@ fn run<N, R, S, K, C, D, G>(
     doors: &mut D,
     gate: &G,
     waker: D::Waker,
-) -> Option<(Status, LiveGrid, GridPass, CallNotes)>
+) -> Option<Ended<D>>
 where
     N: Environment,
     R: Threads + Wait + Sync,
@@ -59,12 +73,13 @@ where
     requires env { All (λ cell. N.settings env.env ≡ settings_for (plan_of cell)) (place_of setting.grid).cells.items }
     requires setting { (forms : List FormOf) × IsSetting options forms setting }
     requires doors { IsOpened options (D.book doors.old) }
-    ensures served { IfSome result (λ ended. (forms : List FormOf) → IsSetting options forms setting → HasServed options forms (C.given clock.new)
+    ensures served { IfSome result (λ ended. (forms : List FormOf) → IsSetting options forms setting → IsSomeAnd ended.grid (λ held.
+        HasServed D.empty_looks options forms (C.given clock.new)
         (operator (S.given script.old) (S.faults script.old) (K.taken out.old) (K.faults out.old))
         (operator (S.given script.new) (S.faults script.new) (K.taken out.new) (K.faults out.new))
         (at_doors (D.book doors.old) (D.empty_looks doors.old) (D.faults doors.old))
         (at_doors (D.book doors.new) (D.empty_looks doors.new) (D.faults doors.new))
-        ended.0 ended.1 ended.2 ended.3) }
+        ended.status held.0 held.1 ended.journal ended.closed)) }
     ensures untouched { IfNone result (operator (S.given script.new) (S.faults script.new) (K.taken out.new) (K.faults out.new)
         ≡ operator (S.given script.old) (S.faults script.old) (K.taken out.old) (K.faults out.old)) }
     ensures none_came { IfNone result ((D.book doors.new).arrivals ≡ []) }
@@ -102,16 +117,19 @@ where
     let grid = stage.into_grid();
     let GridPass { passes, .. } = pass;
     let mut pass = GridPass { passes, tokens };
-    let (passes, tokens, notes) = connections.into_parts();
+    let (passes, tokens, journal) = connections.into_parts();
     grid.gather(&mut pass, GridPass { passes, tokens });
     every_served_connection_stays_so::<LiveWorld>();
     every_noted_order_stays_so::<LiveWorld>();
+    every_answer_before_a_call_stands_first::<LiveWorld>();
     every_served_call_stands_in_a_legal_history();
-    let status = match ended {
-        Ok(()) => told,
-        Err(DoorFault) => Status::DoorFault,
-    };
-    Some((status, grid, pass, notes))
+    let (status, closed) = ending(told, ended);
+    Some(Ended {
+        status,
+        grid: Some((grid, pass)),
+        journal,
+        closed,
+    })
 }
 
 /// Opens the doors for the members, and gives what wakes who waits there. There is room for the server's threads.
@@ -182,7 +200,7 @@ pub fn serve_gated<R, S, K, C, D, G>(
     clock: &mut C,
     doors: &mut D,
     gate: &G,
-) -> Ended
+) -> Ended<D>
 where
     R: Threads + Wait + Sync,
     S: Source,
@@ -191,7 +209,7 @@ where
     D: Doors<From: Drop, To: Drop, Waker: Drop>,
     G: Gate,
     requires forms { map form processors.items ≡ map form_of forms.now }
-    ensures { HasEnded words.now forms.now (C.given clock.new)
+    ensures { HasEnded D.empty_looks words.now forms.now (C.given clock.new)
         (operator (S.given script.old) (S.faults script.old) (K.taken out.old) (K.faults out.old))
         (operator (S.given script.new) (S.faults script.new) (K.taken out.new) (K.faults out.new))
         (at_doors (D.book doors.old) (D.empty_looks doors.old) (D.faults doors.old))
@@ -217,14 +235,10 @@ where
     let ran = run(
         rt, alloc, options, env, setting, script, out, clock, doors, gate, waker,
     );
-    let Some((status, grid, pass, notes)) = ran else {
+    let Some(ended) = ran else {
         return Ended::without_grid(Status::Memory);
     };
-    Ended {
-        status,
-        grid: Some((grid, pass)),
-        notes,
-    }
+    ended
 }
 
 /// Serves clients that come through the doors, and reads a control script meanwhile. The words are `serve` and options.
@@ -238,7 +252,7 @@ pub fn serve_command<R, S, K, C, D>(
     out: &mut K,
     clock: &mut C,
     doors: &mut D,
-) -> Ended
+) -> Ended<D>
 where
     R: Threads + Wait + Sync,
     S: Source,
@@ -246,7 +260,7 @@ where
     C: Clock + Send,
     D: Doors<From: Drop, To: Drop, Waker: Drop>,
     requires forms { map form processors.items ≡ map form_of forms.now }
-    ensures { HasEnded words.now forms.now (C.given clock.new)
+    ensures { HasEnded D.empty_looks words.now forms.now (C.given clock.new)
         (operator (S.given script.old) (S.faults script.old) (K.taken out.old) (K.faults out.old))
         (operator (S.given script.new) (S.faults script.new) (K.taken out.new) (K.faults out.new))
         (at_doors (D.book doors.old) (D.empty_looks doors.old) (D.faults doors.old))

@@ -18,7 +18,7 @@ use crate::working::run_worker;
 use grid_cli::Status;
 use grid_edge::{Clock, DoorFault, Doors, Sink, Source};
 use live_grid::{Environment, GridPass, LiveWorld};
-use live_server::Connections;
+use live_server::{Closed, Connections};
 use partition_threads::Gate;
 use std::sync::Wait;
 use std::thread::Threads;
@@ -35,7 +35,7 @@ fn serve_both<N, R, S, K, C, D>(
     pass: &mut GridPass,
     script: &mut S,
     out: &mut K,
-) -> (Result<(), DoorFault>, Status)
+) -> (Result<Closed<D>, DoorFault>, Status)
 where
     N: Environment,
     R: Threads + Wait + Sync,
@@ -44,7 +44,7 @@ where
     C: Clock + Send,
     D: Doors,
     requires { MayMeet stage.now.options stage.now.grid (D.book doors.old) connections.old pass.old }
-    ensures served { HasServedClients stage.now.grid (C.given clock.new) connections.new
+    ensures served { HasServedClients D.empty_looks stage.now.grid (C.given clock.new) connections.new
         (at_doors (D.book doors.old) (D.empty_looks doors.old) (D.faults doors.old))
         (at_doors (D.book doors.new) (D.empty_looks doors.new) (D.faults doors.new)) result.0 }
     ensures operated { HasOperated stage.now.grid stage.now.options.members result.1
@@ -52,7 +52,7 @@ where
         (operator (S.given script.new) (S.faults script.new) (K.taken out.new) (K.faults out.new))
         pass.old pass.new }
 {
-    let mut serving = || -> Result<(), DoorFault>
+    let mut serving = || -> Result<Closed<D>, DoorFault>
         requires { ServesCalls RequestFits (place_of stage.now.grid) × MayServe live_key (place_of stage.now.grid) connections.now (D.book doors.now) }
     { serve_hall(rt, stage, clock, connections, doors) };
     let mut operating = |is_served: bool| -> Status
@@ -73,7 +73,7 @@ fn serve_if_whole<N, R, S, K, C, D>(
     script: &mut S,
     out: &mut K,
     is_whole: bool,
-) -> Option<(Result<(), DoorFault>, Status)>
+) -> Option<(Result<Closed<D>, DoorFault>, Status)>
 where
     N: Environment,
     R: Threads + Wait + Sync,
@@ -82,7 +82,7 @@ where
     C: Clock + Send,
     D: Doors,
     requires { MayMeet stage.now.options stage.now.grid (D.book doors.old) connections.old pass.old }
-    ensures { HasMet stage.now.grid (C.given clock.new) stage.now.options.members connections.new
+    ensures { HasMet D.empty_looks stage.now.grid (C.given clock.new) stage.now.options.members connections.new
         (at_doors (D.book doors.old) (D.empty_looks doors.old) (D.faults doors.old))
         (at_doors (D.book doors.new) (D.empty_looks doors.new) (D.faults doors.new))
         (operator (S.given script.old) (S.faults script.old) (K.taken out.old) (K.faults out.old))
@@ -106,7 +106,7 @@ fn serve_front<N, R, S, K, C, D>(
     script: &mut S,
     out: &mut K,
     is_whole: bool,
-) -> Option<(Result<(), DoorFault>, Status)>
+) -> Option<(Result<Closed<D>, DoorFault>, Status)>
 where
     N: Environment,
     R: Threads + Wait + Sync,
@@ -115,7 +115,7 @@ where
     C: Clock + Send,
     D: Doors,
     requires { MayMeet stage.now.options stage.now.grid (D.book doors.old) connections.old pass.old }
-    ensures { HasMet stage.now.grid (C.given clock.new) stage.now.options.members connections.new
+    ensures { HasMet D.empty_looks stage.now.grid (C.given clock.new) stage.now.options.members connections.new
         (at_doors (D.book doors.old) (D.empty_looks doors.old) (D.faults doors.old))
         (at_doors (D.book doors.new) (D.empty_looks doors.new) (D.faults doors.new))
         (operator (S.given script.old) (S.faults script.old) (K.taken out.old) (K.faults out.old))
@@ -149,7 +149,7 @@ fn run_crew<N, R, S, K, C, D, G>(
     pass: &mut GridPass,
     script: &mut S,
     out: &mut K,
-) -> Option<(Result<(), DoorFault>, Status)>
+) -> Option<(Result<Closed<D>, DoorFault>, Status)>
 where
     N: Environment,
     R: Threads + Wait + Sync,
@@ -160,7 +160,7 @@ where
     G: Gate,
     requires workers { AreWorkers (place_of stage.now.grid) workers.items }
     requires front { MayMeet stage.now.options stage.now.grid (D.book doors.old) connections.old pass.old }
-    ensures { HasMet stage.now.grid (C.given clock.new) stage.now.options.members connections.new
+    ensures { HasMet D.empty_looks stage.now.grid (C.given clock.new) stage.now.options.members connections.new
         (at_doors (D.book doors.old) (D.empty_looks doors.old) (D.faults doors.old))
         (at_doors (D.book doors.new) (D.empty_looks doors.new) (D.faults doors.new))
         (operator (S.given script.old) (S.faults script.old) (K.taken out.old) (K.faults out.old))
@@ -170,7 +170,7 @@ where
     let work = |worker: Worker|
         requires { IsWorker (place_of stage.now.grid) worker }
     { run_worker(rt, stage, gate, worker) };
-    let mut meeting = |is_whole: bool| -> Option<(Result<(), DoorFault>, Status)>
+    let mut meeting = |is_whole: bool| -> Option<(Result<Closed<D>, DoorFault>, Status)>
         requires { MayMeet stage.now.options stage.now.grid (D.book doors.now) connections.now pass.now }
     {
         serve_front(
@@ -202,7 +202,7 @@ pub(crate) fn run_threads<N, R, S, K, C, D, G>(
     pass: &mut GridPass,
     script: &mut S,
     out: &mut K,
-) -> Option<(Result<(), DoorFault>, Status)>
+) -> Option<(Result<Closed<D>, DoorFault>, Status)>
 where
     N: Environment,
     R: Threads + Wait + Sync,
@@ -213,7 +213,7 @@ where
     G: Gate,
     requires workers { AreWorkers (place_of stage.now.grid) workers.items }
     requires front { MayMeet stage.now.options stage.now.grid (D.book doors.old) connections.old pass.old }
-    ensures served { IfSome result (λ ended. HasServedClients stage.now.grid (C.given clock.new) connections.new
+    ensures served { IfSome result (λ ended. HasServedClients D.empty_looks stage.now.grid (C.given clock.new) connections.new
         (at_doors (D.book doors.old) (D.empty_looks doors.old) (D.faults doors.old))
         (at_doors (D.book doors.new) (D.empty_looks doors.new) (D.faults doors.new)) ended.0) }
     ensures operated { IfSome result (λ ended. HasOperated stage.now.grid stage.now.options.members ended.1

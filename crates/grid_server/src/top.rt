@@ -45,7 +45,7 @@ pub fn grid_top<R, S, K, C, D, W>(
     clock: &mut C,
     doors: &mut D,
     watch: &W,
-) -> Ended
+) -> Ended<D>
 where
     R: Threads + Wait + Sync,
     S: Source,
@@ -60,32 +60,38 @@ where
     // What is printed for each entry of a map and each queue is the history of one that one thread used, with every answered
     // call in it once.
     // Whatever the status, and whichever line prints it.
-    ensures headline { is_serve words.now ≡ false → sample_of words.now ≡ None → PrintsHistories (map form processors.items) result.status (S.given script.old) (S.given script.new) (K.taken out.old) (K.taken out.new) }
+    ensures headline { is_serve words.now ≡ false → sample_of words.now ≡ None
+        → PrintsHistories (map form processors.items) result.status (S.given script.old) (S.given script.new) (K.taken out.old) (K.taken out.new) }
     // A value that a near client hits is the reply of a get of its own in the key's history, after each write that an
     // invalidation named which it has heard; where it has read all that was sent to it of the key, after each answered write
     // of a version that its member knows.
-    ensures hits { is_serve words.now ≡ false → sample_of words.now ≡ None → PrintsHits (map form processors.items) result.status (S.given script.old) (S.given script.new) (K.taken out.old) (K.taken out.new) }
+    ensures hits { is_serve words.now ≡ false → sample_of words.now ≡ None
+        → PrintsHits (map form processors.items) result.status (S.given script.old) (S.given script.new) (K.taken out.old) (K.taken out.new) }
     // Where the script's second line has masters run the table service: what the service of each partition did is what its
     // masters published, in order, and that alone gives the partition's row, whoever was master. What is published stays, no
     // version of a row is made twice, and no two live members are master of a partition.
-    ensures decisions { is_serve words.now ≡ false → sample_of words.now ≡ None → PrintsDecisions (map form processors.items) result.status (S.given script.old) (S.given script.new) (K.taken out.old) (K.taken out.new) }
+    ensures decisions { is_serve words.now ≡ false → sample_of words.now ≡ None
+        → PrintsDecisions (map form processors.items) result.status (S.given script.old) (S.given script.new) (K.taken out.old) (K.taken out.new) }
     // After each line calls wait by the rule: each partition has come to what it is by lines of its machine that bring the
     // waiting calls of the script there and no other, and goes on by more of them; nothing is to be done with whoever still
     // waits; and it has changed nothing: without it the same would have happened to all others.
-    ensures waits { is_serve words.now ≡ false → sample_of words.now ≡ None → PrintsWaits (map form processors.items) result.status (S.given script.old) (S.given script.new) (K.taken out.old) (K.taken out.new) }
+    ensures waits { is_serve words.now ≡ false → sample_of words.now ≡ None
+        → PrintsWaits (map form processors.items) result.status (S.given script.old) (S.given script.new) (K.taken out.old) (K.taken out.new) }
     // The control script was run on the grid that is handed back, in the histories that its pass has seen; and each client that
-    // came was answered by these. Where no grid was made, the words, the doors or memory are the cause.
-    ensures served { is_serve words.now ≡ true → HasEnded words.now forms.now (C.given clock.new)
+    // came was answered by these. Where no grid was made, the words, the doors or memory are the cause. The closing that is handed
+    // back was seen since: all were let in who had come by then.
+    ensures served { is_serve words.now ≡ true → HasEnded D.empty_looks words.now forms.now (C.given clock.new)
         (operator (S.given script.old) (S.faults script.old) (K.taken out.old) (K.faults out.old))
         (operator (S.given script.new) (S.faults script.new) (K.taken out.new) (K.faults out.new))
         (at_doors (D.book doors.old) (D.empty_looks doors.old) (D.faults doors.old))
         (at_doors (D.book doors.new) (D.empty_looks doors.new) (D.faults doors.new)) result }
     // What the pass that is handed back has seen of each object is the history of one that one thread used, with every answered
     // call in it once, and the reply that its client was sent for it. Each call in it is one message's of a client that came.
-    ensures histories { is_serve words.now ≡ true → ServesHistories (C.given clock.new) (D.book doors.new) result.grid }
-    // Of two clients' calls of one partition, that one's event stands first in what the pass has seen whose outcome the server
-    // had found before it started the other. Each call that was seen has its start and this moment in the notes.
-    ensures in_order { is_serve words.now ≡ true → ServesInOrder result.notes result.grid }
+    ensures histories { is_serve words.now ≡ true → ServesHistories (C.given clock.new) result.journal (D.book doors.new) result.grid }
+    // Of two calls of one partition, of any clients: where some byte of the answer to the one was written before the last byte
+    // of the other was read, its event stands first in what the pass that is handed back has seen. The journal that is handed back
+    // has all that was read from clients and written to them, in the order in which it was.
+    ensures in_order { is_serve words.now ≡ true → ServesInOrder (C.given clock.new) result.journal (D.book doors.new) result.grid }
     // The summary of the number's script was printed, and behind it what was counted on the grid that is handed back; or as much
     // of it as the status says. No script was read, and no door was opened.
     ensures sampled { (number : ℕ) → sample_of words.now ≡ Some number → HasSampledBy number forms.now

@@ -12,6 +12,8 @@ use Rattle.hand_cell.specs.declared.outcome.LiveOutcome.{LiveOutcome}
 use Rattle.hand_cell.specs.Names.{has_number}
 use Rattle.hand_cell.specs.Told.{Told}
 use Rattle.message_frames.specs.Messages.{messages_of}
+use Rattle.loop_journal.specs.Journals.{own_of}
+use Rattle.loop_journal.specs.declared.entry.Entry.{Entry}
 use Rattle.partition_threads.specs.declared.workplace.Workplace.{Workplace}
 use Rattle.partition_threads.specs.Workplaces.{AreTokensAt}
 use Rattle.session_calls.specs.declared.session.SessionPass.{SessionPass}
@@ -19,11 +21,12 @@ use Rattle.session_calls.specs.Openings.{IsOpened}
 use Rattle.session_calls.specs.Passes.{ArePassesOf, HaveNumber, giving_up, given as given_names}
 use Rattle.session_core.specs.Items.{items_of}
 use Rattle.live_session.specs.declared.connection.Asked.{Asked}
-use Rattle.live_session.specs.declared.note.CallNote.{CallNote}
 use Rattle.live_session.specs.Connections.{HasSeen, AreBelow, IsFresh, IsServedTo}
 use Rattle.live_session.specs.Next.{noted_call}
+use Rattle.live_session.specs.Starts.{nothing_done}
 use Rattle.live_session.proofs.Beginning.{no_messages}
 use Rattle.live_session.proofs.Calls.{none_called}
+use Rattle.live_session.proofs.Timing.{nothing_noted, nothing_in_time}
 use Rattle.live_session.proofs.Places.{get_front, get_seam, same_some}
 use Rattle.live_server.specs.declared.client.Client.{Client}
 use Rattle.live_server.specs.declared.connections.Connections.{Connections}
@@ -65,12 +68,12 @@ module _ {T P E O F K : Type 0} (key_of : E → Key) (tells : P → List E → E
       less_or_more : (n m : ℕ) → (n < m) ⊎ (m ≤ n)
       less_or_more n m = grind arith
 
-  -- what was given back stays as it was served, where the passes have seen more
-  pub given_back_on : (passes : List (Told E)) → HaveGone key_of old.passes.items passes → (later : List Arrival)
-      → All (WasServed key_of tells call_of place given passes (book.arrivals ++ later)) book.returns
-  given_back_on passes gone later k d within =
-      still_was_served key_of tells call_of place given old.passes.items passes gone book.arrivals later (get_or book.returns k d)
-      (serving.named (get_or book.returns k d).number (returned_rests k d within)) (serving.given_back k d within)
+  -- what was given back stays as it was served, where the passes have seen more, and more was done for others that are served
+  pub given_back_on : (journal : List Entry) → ((number : ℕ) → times_served number old.clients.items ≡ 0 → own_of number journal ≡ own_of number old.journal)
+      → (passes : List (Told E)) → HaveGone key_of old.passes.items passes → (later : List Arrival) → All (WasServed key_of tells call_of place given journal passes (book.arrivals ++ later)) book.returns
+  given_back_on journal same passes gone later k d within =
+      still_was_served key_of tells call_of place given old.journal journal old.passes.items passes gone book.arrivals later (get_or book.returns k d)
+      (serving.named (get_or book.returns k d).number (returned_rests k d within)) (same (get_or book.returns k d).number (returned_rests k d within)) (serving.given_back k d within)
 
   -- nobody is served yet by the next number
   pub next_rests : (times_served (length book.arrivals) old.clients.items ≡ 0) × (times_returned (length book.arrivals) book.returns ≡ 0)
@@ -94,8 +97,9 @@ module _ {T P E O F K : Type 0} (key_of : E → Key) (tells : P → List E → E
     read = served.read;
     written = served.written;
     moved = served.moved;
-    starts = served.starts;
+    log = served.log;
     by_clock = served.by_clock;
+    by_journal = served.by_journal;
     seen = served.seen;
     served = served.served;
     marked = served.marked;
@@ -128,7 +132,7 @@ module _ {T P E O F K : Type 0} (key_of : E → Key) (tells : P → List E → E
 
     -- the client is served from now on
     pub began : (client : Client T F K P E O) → client.number ≡ number → client.from ≡ from → client.to ≡ to → client.connection.pass ≡ session → client.connection.asked ≡ None
-        → IsServedTo key_of tells call_of [] place client.connection (seen_by old.passes.items (λ q. [])) [] []
+        → IsServedTo key_of tells call_of nothing_done place client.connection (seen_by old.passes.items (λ q. [])) [] []
         → IsServedSince key_of tells call_of place given telling (book.arrivals ++ arrival ∷ []) serving.marks client
     began client has_number its_from its_to its_pass idle served = record {
       arrival = arrival;
@@ -143,8 +147,9 @@ module _ {T P E O F K : Type 0} (key_of : E → Key) (tells : P → List E → E
         read_faults = let e : telling.read_faults client.from ≡ telling.read_faults from = ap telling.read_faults its_from in omega (arith, e);
         write_faults = let e : telling.write_faults client.to ≡ telling.write_faults to = ap telling.write_faults its_to in omega (arith, e);
       };
-      starts = [];
+      log = nothing_done;
       by_clock = tt;
+      by_journal = sym (ap (own_of client.number) (sym serving.are_marks.entries_are) ∙ (ap (λ (n : ℕ). own_of n old.journal) (has_number ∙ number_is) ∙ serving.undone (length book.arrivals) (omega arith)));
       seen = seen_by old.passes.items (λ q. []);
       served = served;
       marked = keeps_none key_of serving.marks client.number (seen_by old.passes.items (λ q. [])) (λ p. subst (λ (n : ℕ). AreBelow key_of n 0 (seen_by old.passes.items (λ q. []) p)) (sym (has_number ∙ number_is))
@@ -153,11 +158,11 @@ module _ {T P E O F K : Type 0} (key_of : E → Key) (tells : P → List E → E
     }
 
   -- A connection came, and is served
-  admitted : (new : Connections T F K P E O) (client : Client T F K P E O) → client.number ≡ length book.arrivals → IsServedSince key_of tells call_of place given telling (book.arrivals ++ arrival ∷ []) serving.marks client → new.notes ≡ old.notes
+  admitted : (new : Connections T F K P E O) (client : Client T F K P E O) → client.number ≡ length book.arrivals → IsServedSince key_of tells call_of place given telling (book.arrivals ++ arrival ∷ []) serving.marks client → new.journal ≡ old.journal
       → new.passes.items ≡ map (giving_up (One (length book.arrivals))) old.passes.items → new.tokens.items ≡ old.tokens.items → new.clients.items ≡ old.clients.items ++ client ∷ []
       → vec_capacity new.clients ≡ vec_capacity old.clients → new.accepted ≡ old.accepted + 1 → ArePassesOf place.cells.items new.passes.items
       → IsServing key_of tells call_of place given telling new (after_arrival book (record { member = member; at = connection_of telling from to }))
-  admitted new client its_number served notes_are passes_are tokens_are clients_are room accepted of_cells = record {
+  admitted new client its_number served journal_is passes_are tokens_are clients_are room accepted of_cells = record {
     numbered = accepted ∙ (ap (λ (n : ℕ). n + 1) serving.numbered ∙ sym more_arrivals);
     room = subst (λ (n : ℕ). ROOM ≤ n) (sym room) serving.room;
     passes = of_cells;
@@ -169,17 +174,18 @@ module _ {T P E O F K : Type 0} (key_of : E → Key) (tells : P → List E → E
         (same_or_other (length book.arrivals) number);
     no_more = λ number more. let m = more_arrivals in let c = times_now number in let zero = one_other client.number number (λ e. let s : length book.arrivals ≡ number = sym its_number ∙ e in omega (arith, more, s, m)) in let e = serving.no_more number (omega (arith, more, m)) in omega (arith, c, zero, e);
     marks = serving.marks;
-    are_marks = subst (λ (n : List CallNote). AreMarks key_of serving.marks n new.passes.items) (sym notes_are) (marks_seen key_of serving.marks old.notes old.passes.items new.passes.items gone serving.are_marks);
+    are_marks = subst (λ (n : List Entry). AreMarks key_of serving.marks n new.passes.items) (sym journal_is) (marks_seen key_of serving.marks old.journal old.passes.items new.passes.items gone serving.are_marks);
     clients = subst (λ l. All (IsServedSince key_of tells call_of place given telling (book.arrivals ++ arrival ∷ []) serving.marks) l) (sym clients_are)
         (All-push (IsServedSince key_of tells call_of place given telling (book.arrivals ++ arrival ∷ []) serving.marks) old.clients.items client
         (All-weaker (IsServedSince key_of tells call_of place given telling book.arrivals serving.marks) (IsServedSince key_of tells call_of place given telling (book.arrivals ++ arrival ∷ []) serving.marks)
         others_came old.clients.items serving.clients) served);
-    given_back = given_back_on key_of tells call_of place given telling old book serving new.passes.items gone (arrival ∷ []);
+    given_back = given_back_on key_of tells call_of place given telling old book serving new.journal (λ number none. ap (own_of number) journal_is) new.passes.items gone (arrival ∷ []);
     named = λ number none. let c = times_now number in
         let other : ¬ (number ≡ length book.arrivals) = λ same. let one = one_same client.number number (its_number ∙ sym same) in omega (arith, c, one, none) in
         subst (HaveNumber number) (sym passes_are) (still_have number other (serving.named number (omega (arith, c, none))));
     unseen = λ number more. still_unseen key_of number old.passes.items new.passes.items gone
         (serving.named number (let m = more_arrivals in let e = serving.no_more number (omega (arith, more, m)) in omega (arith, e))) (serving.unseen number (let m = more_arrivals in omega (arith, more, m)));
+    undone = λ number more. ap (own_of number) journal_is ∙ serving.undone number (let m = more_arrivals in omega (arith, more, m));
     marked = λ number none. let c = times_now number in subst (λ (l : List Mark). KeepsMarks key_of l number (seen_of new.passes.items)) (append-nil serving.marks)
         (rested_on key_of serving.marks [] number old.passes.items new.passes.items gone (serving.named number (omega (arith, c, none))) (serving.marked number (omega (arith, c, none))));
   }
@@ -196,10 +202,10 @@ module _ {T P E O F K : Type 0} (key_of : E → Key) (tells : P → List E → E
           subst (λ (t : Told E). has_number t.names.numbers number ≡ true) (sym was.2) (still_named (length book.arrivals) number was.0.names.numbers other (have p was.0 was.1))
 
   -- A connection came, and there was no memory for it: it was given back
-  refused : (new : Connections T F K P E O) → new.notes ≡ old.notes → new.passes.items ≡ old.passes.items → new.tokens.items ≡ old.tokens.items → new.clients ≡ old.clients → new.accepted ≡ old.accepted + 1
+  refused : (new : Connections T F K P E O) → new.journal ≡ old.journal → new.passes.items ≡ old.passes.items → new.tokens.items ≡ old.tokens.items → new.clients ≡ old.clients → new.accepted ≡ old.accepted + 1
       → IsServing key_of tells call_of place given telling new
       (after_return (after_arrival book (record { member = member; at = connection_of telling from to })) (record { number = length book.arrivals; at = connection_of telling from to; memory = true }))
-  refused new notes_are passes_are tokens_are clients_are accepted = record {
+  refused new journal_is passes_are tokens_are clients_are accepted = record {
     numbered = accepted ∙ (ap (λ (n : ℕ). n + 1) serving.numbered ∙ sym more_arrivals);
     room = subst (λ (n : ℕ). ROOM ≤ n) (sym (ap (λ v. vec_capacity v) clients_are)) serving.room;
     passes = subst (ArePassesOf place.cells.items) (sym passes_are) serving.passes;
@@ -211,15 +217,16 @@ module _ {T P E O F K : Type 0} (key_of : E → Key) (tells : P → List E → E
         (same_or_other (length book.arrivals) number);
     no_more = λ number more. let m = more_arrivals in let c = times_now number in let d = times_back number in let zero = one_other (length book.arrivals) number (λ same. omega (arith, more, same, m)) in let e = serving.no_more number (omega (arith, more, m)) in omega (arith, c, d, zero, e);
     marks = serving.marks;
-    are_marks = subst (λ (n : List CallNote). AreMarks key_of serving.marks n new.passes.items) (sym notes_are) (subst (AreMarks key_of serving.marks old.notes) (sym passes_are) serving.are_marks);
+    are_marks = subst (λ (n : List Entry). AreMarks key_of serving.marks n new.passes.items) (sym journal_is) (subst (AreMarks key_of serving.marks old.journal) (sym passes_are) serving.are_marks);
     clients = subst (λ l. All (IsServedSince key_of tells call_of place given telling (book.arrivals ++ arrival ∷ []) serving.marks) l) (sym (ap (λ v. v.items) clients_are))
         (All-weaker (IsServedSince key_of tells call_of place given telling book.arrivals serving.marks) (IsServedSince key_of tells call_of place given telling (book.arrivals ++ arrival ∷ []) serving.marks)
         others_came old.clients.items serving.clients);
-    given_back = subst (λ l. All (WasServed key_of tells call_of place given l (book.arrivals ++ arrival ∷ [])) (book.returns ++ back ∷ [])) (sym passes_are)
-        (All-push (WasServed key_of tells call_of place given old.passes.items (book.arrivals ++ arrival ∷ [])) book.returns back
-        (given_back_on key_of tells call_of place given telling old book serving old.passes.items (stays key_of old.passes.items) (arrival ∷ [])) at_once);
+    given_back = subst (λ l. All (WasServed key_of tells call_of place given new.journal l (book.arrivals ++ arrival ∷ [])) (book.returns ++ back ∷ [])) (sym passes_are)
+        (All-push (WasServed key_of tells call_of place given new.journal old.passes.items (book.arrivals ++ arrival ∷ [])) book.returns back
+        (given_back_on key_of tells call_of place given telling old book serving new.journal (λ number none. ap (own_of number) journal_is) old.passes.items (stays key_of old.passes.items) (arrival ∷ [])) at_once);
     named = λ number none. subst (HaveNumber number) (sym passes_are) (serving.named number (sym (times_now number) ∙ none));
     unseen = λ number more. subst (SawNone key_of number) (sym passes_are) (serving.unseen number (let m = more_arrivals in omega (arith, more, m)));
+    undone = λ number more. ap (own_of number) journal_is ∙ serving.undone number (let m = more_arrivals in omega (arith, more, m));
     marked = λ number none. subst (λ l. KeepsMarks key_of serving.marks number (seen_of l)) (sym passes_are) (serving.marked number (sym (times_now number) ∙ none));
   }
     where
@@ -232,7 +239,7 @@ module _ {T P E O F K : Type 0} (key_of : E → Key) (tells : P → List E → E
       times_back : (number : ℕ) → times_returned number (book.returns ++ back ∷ []) ≡ times_returned number book.returns + one_if (length book.arrivals) number
       times_back number = times_push (λ (each : Return). each.number) number book.returns back
 
-      at_once : WasServed key_of tells call_of place given old.passes.items (book.arrivals ++ arrival ∷ []) back
+      at_once : WasServed key_of tells call_of place given new.journal old.passes.items (book.arrivals ++ arrival ∷ []) back
       at_once = record {
         arrival = arrival;
         came = came_last;
@@ -247,8 +254,10 @@ module _ {T P E O F K : Type 0} (key_of : E → Key) (tells : P → List E → E
             read_faults = omega arith;
             write_faults = omega arith;
           };
-          starts = [];
+          log = nothing_done;
           by_clock = tt;
+          by_journal = sym (ap (own_of (length book.arrivals)) journal_is ∙ serving.undone (length book.arrivals) (omega arith));
+          noted = nothing_noted (length book.arrivals);
           left = [];
           rest = [];
           answers = record {
@@ -257,9 +266,10 @@ module _ {T P E O F K : Type 0} (key_of : E → Key) (tells : P → List E → E
             replies = [];
             each = record { as_many = refl; each = λ i item reply there said. absurd cc };
             bytes = refl;
-            calls = λ partition. none_called key_of tells call_of [] place (items_of (length book.arrivals) member (messages_of true [])) (length book.arrivals) member partition (seen_by old.passes.items (λ q. []) partition)
+            calls = λ partition. none_called key_of tells call_of nothing_done place (items_of (length book.arrivals) member (messages_of true [])) (length book.arrivals) member partition (seen_by old.passes.items (λ q. []) partition)
                 (seen_case old.passes.items (λ q. []) (λ l. AreBelow key_of (length book.arrivals) 0 l) partition (λ pass there. serving.unseen (length book.arrivals) (omega arith) partition pass there) tt);
             in_order = λ i j first second less one two same at at' x y. absurd cc;
+            in_time = nothing_in_time (length book.arrivals) member [] [];
           };
           ended = inr (inl refl);
         };
@@ -269,21 +279,21 @@ module _ {T P E O F K : Type 0} (key_of : E → Key) (tells : P → List E → E
 
   module _ (now : Book) (now_is : now ≡ after_arrival book (record { member = member; at = connection_of telling from to })) (number : ℕ) (number_is : number ≡ length book.arrivals) where
     pub came_in : (new : Connections T F K P E O) (client : Client T F K P E O) → client.number ≡ number → IsServedSince key_of tells call_of place given telling (book.arrivals ++ arrival ∷ []) serving.marks client
-        → new.notes ≡ old.notes → new.passes.items ≡ map (giving_up (One number)) old.passes.items → new.tokens.items ≡ old.tokens.items → new.clients.items ≡ old.clients.items ++ client ∷ []
+        → new.journal ≡ old.journal → new.passes.items ≡ map (giving_up (One number)) old.passes.items → new.tokens.items ≡ old.tokens.items → new.clients.items ≡ old.clients.items ++ client ∷ []
         → vec_capacity new.clients ≡ vec_capacity old.clients → new.accepted ≡ old.accepted + 1 → ArePassesOf place.cells.items new.passes.items
         → IsServing key_of tells call_of place given telling new now
-    came_in new client its_number served notes_are passes_are tokens_are clients_are room accepted of_cells =
+    came_in new client its_number served journal_is passes_are tokens_are clients_are room accepted of_cells =
         subst (λ (b : Book). IsServing key_of tells call_of place given telling new b) (sym now_is)
-        (admitted new client (its_number ∙ number_is) served notes_are (passes_are ∙ ap (λ (n : ℕ). map (giving_up (One n)) old.passes.items) number_is) tokens_are clients_are room accepted of_cells)
+        (admitted new client (its_number ∙ number_is) served journal_is (passes_are ∙ ap (λ (n : ℕ). map (giving_up (One n)) old.passes.items) number_is) tokens_are clients_are room accepted of_cells)
 
     pub turned_away : (last : Book) → last ≡ after_return now (record { number = number; at = connection_of telling from to; memory = true })
-        → (new : Connections T F K P E O) → new.notes ≡ old.notes → new.passes.items ≡ old.passes.items → new.tokens.items ≡ old.tokens.items → new.clients ≡ old.clients → new.accepted ≡ old.accepted + 1
+        → (new : Connections T F K P E O) → new.journal ≡ old.journal → new.passes.items ≡ old.passes.items → new.tokens.items ≡ old.tokens.items → new.clients ≡ old.clients → new.accepted ≡ old.accepted + 1
         → IsServing key_of tells call_of place given telling new last
-    turned_away last last_is new notes_are passes_are tokens_are clients_are accepted =
+    turned_away last last_is new journal_is passes_are tokens_are clients_are accepted =
         subst (λ (b : Book). IsServing key_of tells call_of place given telling new b)
         (sym (last_is ∙ (ap (λ (b : Book). after_return b (record { number = number; at = connection_of telling from to; memory = true })) now_is
         ∙ ap (λ (n : ℕ). after_return (after_arrival book (record { member = member; at = connection_of telling from to })) (record { number = n; at = connection_of telling from to; memory = true })) number_is)))
-        (refused new notes_are passes_are tokens_are clients_are accepted)
+        (refused new journal_is passes_are tokens_are clients_are accepted)
 
     -- and it may be given back
     pub may_go_back : IsOut now number

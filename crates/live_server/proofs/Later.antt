@@ -7,6 +7,7 @@ use Rattle.grid_edge.specs.MemoryDoors.{Telling}
 use Rattle.hand_cell.specs.declared.names.Key.{Key}
 use Rattle.hand_cell.specs.declared.outcome.LiveOutcome.{LiveOutcome}
 use Rattle.hand_cell.specs.Told.{Told}
+use Rattle.loop_journal.specs.declared.entry.Entry.{Entry}
 use Rattle.partition_threads.specs.declared.workplace.Workplace.{Workplace}
 use Rattle.session_calls.specs.Learning.{Begins}
 use Rattle.live_session.proofs.Given.{given_since}
@@ -18,27 +19,29 @@ use Rattle.live_server.specs.Clients.{IsServedSince}
 use Rattle.live_server.specs.Standing.{IsServing}
 
 module _ {T P E O : Type 0} (key_of : E → Key) (tells : P → List E → E → LiveOutcome → Type 0) (call_of : ℕ → Request → ℕ → E) (place : Workplace T P E O) (given given_now : List ℕ) (gave : Begins given given_now) where
-  pub answered_later : (number member : ℕ) (was is : Connection) (memory : Bool) (seen : ℕ → List E) → WasAnswered key_of tells call_of place given number member was is memory seen
-      → WasAnswered key_of tells call_of place given_now number member was is memory seen
-  answered_later number member was is memory seen answered = record {
+  pub answered_later : (journal : List Entry) (number member : ℕ) (was is : Connection) (memory : Bool) (seen : ℕ → List E) → WasAnswered key_of tells call_of place given journal number member was is memory seen
+      → WasAnswered key_of tells call_of place given_now journal number member was is memory seen
+  answered_later journal number member was is memory seen answered = record {
     read = answered.read;
     written = answered.written;
     moved = answered.moved;
-    starts = answered.starts;
-    by_clock = given_since answered.starts given given_now gave answered.by_clock;
+    log = answered.log;
+    by_clock = given_since answered.log.starts given given_now gave answered.by_clock;
+    by_journal = answered.by_journal;
+    noted = answered.noted;
     left = answered.left;
     rest = answered.rest;
     answers = answered.answers;
     ended = answered.ended;
   }
 
-  pub served_later : (passes : List (Told E)) (arrivals : List Arrival) (back : Return) → WasServed key_of tells call_of place given passes arrivals back → WasServed key_of tells call_of place given_now passes arrivals back
-  served_later passes arrivals back served = record {
+  pub served_later : (journal : List Entry) (passes : List (Told E)) (arrivals : List Arrival) (back : Return) → WasServed key_of tells call_of place given journal passes arrivals back → WasServed key_of tells call_of place given_now journal passes arrivals back
+  served_later journal passes arrivals back served = record {
     arrival = served.arrival;
     came = served.came;
     seen = served.seen;
     seen_is = served.seen_is;
-    answered = answered_later back.number served.arrival.member served.arrival.at back.at back.memory served.seen served.answered;
+    answered = answered_later journal back.number served.arrival.member served.arrival.at back.at back.memory served.seen served.answered;
   }
 
   module _ {F K : Type 0} (telling : Telling F K) where
@@ -52,8 +55,9 @@ module _ {T P E O : Type 0} (key_of : E → Key) (tells : P → List E → E →
       read = served.read;
       written = served.written;
       moved = served.moved;
-      starts = served.starts;
-      by_clock = given_since served.starts given given_now gave served.by_clock;
+      log = served.log;
+      by_clock = given_since served.log.starts given given_now gave served.by_clock;
+      by_journal = served.by_journal;
       seen = served.seen;
       served = served.served;
       marked = served.marked;
@@ -74,9 +78,10 @@ module _ {T P E O : Type 0} (key_of : E → Key) (tells : P → List E → E →
       are_marks = serving.are_marks;
       clients = All-weaker (IsServedSince key_of tells call_of place given telling book.arrivals serving.marks) (IsServedSince key_of tells call_of place given_now telling book.arrivals serving.marks)
           (client_later book.arrivals serving.marks) connections.clients.items serving.clients;
-      given_back = All-weaker (WasServed key_of tells call_of place given connections.passes.items book.arrivals) (WasServed key_of tells call_of place given_now connections.passes.items book.arrivals)
-          (served_later connections.passes.items book.arrivals) book.returns serving.given_back;
+      given_back = All-weaker (WasServed key_of tells call_of place given connections.journal connections.passes.items book.arrivals) (WasServed key_of tells call_of place given_now connections.journal connections.passes.items book.arrivals)
+          (served_later connections.journal connections.passes.items book.arrivals) book.returns serving.given_back;
       named = serving.named;
       unseen = serving.unseen;
+      undone = serving.undone;
       marked = serving.marked;
     }

@@ -1,5 +1,5 @@
--- The marks of what was noted, as more is noted and seen.
-use Rattle.std.proofs.Common.{◌≡◌, ⊎_elim, ℕ, ◌+◌, ◌<◌, ◌≤◌, true, List, [], ◌∷◌, ◌++◌, length, map, set, Option, Some, None, IfSome, slice_get, refl, sym, ap, ◌∙◌, subst, append_assoc, append-nil, arith, length-set}
+-- The marks of a journal, as more is noted and seen.
+use Rattle.std.proofs.Common.{◌≡◌, ◌⊎◌, inl, inr, ⊎_elim, ℕ, zero, suc, ◌+◌, ◌<◌, ◌≤◌, true, List, [], ◌∷◌, ◌++◌, length, map, set, Option, Some, None, IfSome, slice_get, refl, sym, ap, ◌∙◌, subst, append_assoc, append-nil, arith, length-set}
 use Rattle.std.proofs.lemmas.List.{length-append, map-append}
 use Rattle.std.proofs.lemmas.Option.{slice_get_within}
 use Rattle.grid_base.specs.declared.names.CallId.{CallId}
@@ -11,23 +11,43 @@ use Rattle.hand_cell.specs.declared.names.NameSet.{NameSet}
 use Rattle.hand_cell.specs.declared.outcome.LiveOutcome.{LiveOutcome}
 use Rattle.hand_cell.specs.Names.{has_number, NoneOf}
 use Rattle.hand_cell.specs.Told.{Told, SeesMore, having_seen}
+use Rattle.loop_journal.specs.Journals.{own_of}
 use Rattle.partition_threads.specs.declared.workplace.Workplace.{Workplace}
 use Rattle.session_calls.specs.Passes.{HaveNumber}
 use Rattle.live_session.specs.declared.connection.Asked.{Asked}
-use Rattle.live_session.specs.declared.note.CallNote.{CallNote}
-use Rattle.live_session.specs.declared.note.CallNote.TheVariants.{Started, Finished}
-use Rattle.live_session.specs.declared.note.NotedCall.{NotedCall}
+use Rattle.loop_journal.specs.declared.entry.Entry.{Entry}
+use Rattle.loop_journal.specs.declared.entry.Entry.TheVariants.{Started, Finished}
+use Rattle.loop_journal.specs.declared.entry.NotedCall.{NotedCall}
 use Rattle.live_session.specs.Among.{KnowsMore}
 use Rattle.live_session.specs.Connections.{AreBelow, StandsAt}
 use Rattle.live_session.specs.Next.{noted_call}
 use Rattle.live_session.proofs.Numbers.{none_below, stood_all}
 use Rattle.live_session.proofs.Passes.{same_or_other}
-use Rattle.live_session.proofs.Places.{get_front, get_pushed, same_some, none_some, set_other, set_there}
+use Rattle.live_session.proofs.Places.{get_front, same_some, none_some, set_other, set_there}
+use Rattle.loop_journal.proofs.Owning.{own_both}
 use Rattle.live_server.specs.declared.client.Client.{Client}
 use Rattle.live_server.specs.Clients.{IsServedSince}
-use Rattle.live_server.specs.Order.{WasSeenAt, KeepsOrder, Mark, call_in, IsBetween, IsMarked, KeepsMarks, AreMarks, HaveLearned, seen_at, seen_of}
+use Rattle.live_server.specs.Order.{WasSeenAt, KeepsOrder, Mark, entries_of, IsMarkIn, IsBetween, IsMarked, KeepsMarks, AreMarks, HaveLearned, seen_at, seen_of}
 use Rattle.live_server.specs.Serving.{SawNone}
 use Rattle.live_server.proofs.Passing.{HaveGone, get_some, get_mapped}
+
+-- it stands in the second of two lists that follow each other
+abbrev pub Behind : {A : Type 0} → List A → List A → ℕ → A → Type 0
+Behind xs ys i y = (k : ℕ) × (i ≡ length xs + k) × (slice_get ys k ≡ Some y)
+
+-- what stands in both stands in one of them
+pub get_either : {A : Type 0} (xs ys : List A) (i : ℕ) (y : A) → slice_get (xs ++ ys) i ≡ Some y → (slice_get xs i ≡ Some y) ⊎ Behind xs ys i y
+get_either [] ys i y e = let at : i ≡ 0 + i = omega arith in inr (i, at, e)
+get_either (x ∷ xs) ys zero y e = inl e
+get_either (x ∷ xs) ys (suc i) y e = ⊎_elim (λ h. inl h) (λ (h : Behind xs ys i y). let at : i ≡ length xs + h.0 = h.1 in inr (h.0, omega (arith, at), h.2)) (get_either xs ys i y e)
+
+-- what was done for one connection, by marks and more of them
+pub marks_both : (conn : ℕ) (marks more : List Mark) → own_of conn (entries_of (marks ++ more)) ≡ own_of conn (entries_of marks) ++ own_of conn (entries_of more)
+marks_both conn marks more = ap (own_of conn) (map-append (λ (m : Mark). m.entry) marks more) ∙ own_both conn (entries_of marks) (entries_of more)
+
+-- of which none is of it
+pub marks_stay : (conn : ℕ) (marks more : List Mark) → own_of conn (entries_of more) ≡ [] → own_of conn (entries_of (marks ++ more)) ≡ own_of conn (entries_of marks)
+marks_stay conn marks more none = marks_both conn marks more ∙ (ap (λ (es : List Entry). own_of conn (entries_of marks) ++ es) none ∙ append-nil (own_of conn (entries_of marks)))
 
 -- with more marks
 pub between_more : (marks more : List Mark) (call : NotedCall) (place : ℕ) → IsBetween marks call place → IsBetween (marks ++ more) call place
@@ -143,60 +163,62 @@ module _ {E : Type 0} (key_of : E → Key) where
   grown_length a b later e = let l : length b ≡ length a + length later = ap (λ (x : List E). length x) e ∙ length-append a later in omega (arith, l)
 
   -- as passes have seen more
-  pub marks_seen : (marks : List Mark) (notes : List CallNote) (old new : List (Told E)) → HaveGone key_of old new → AreMarks key_of marks notes old → AreMarks key_of marks notes new
-  marks_seen marks notes old new gone are = record {
-    notes_are = are.notes_are;
+  pub marks_seen : (marks : List Mark) (journal : List Entry) (old new : List (Told E)) → HaveGone key_of old new → AreMarks key_of marks journal old → AreMarks key_of marks journal new
+  marks_seen marks journal old new gone are = record {
+    entries_are = are.entries_are;
     rise = are.rise;
-    within = λ at mark pass there here.
-        let was = get_some old (call_in mark.note).partition (subst (λ (n : ℕ). (call_in mark.note).partition < n) gone.as_long (slice_get_within new (call_in mark.note).partition pass here)) in
-        let more = gone.each (call_in mark.note).partition was.0 pass was.1 here in
-        let before : mark.count ≤ length was.0.seen = are.within at mark was.0 there was.1 in
+    within = λ partition at mark pass there its here.
+        let was = get_some old partition (subst (λ (n : ℕ). partition < n) gone.as_long (slice_get_within new partition pass here)) in
+        let more = gone.each partition was.0 pass was.1 here in
+        let before : mark.count ≤ length was.0.seen = are.within partition at mark was.0 there its was.1 in
         let grown : length was.0.seen ≤ length pass.seen = grown_length was.0.seen pass.seen more.0 more.1 in
         omega (arith, before, grown);
   }
 
-  -- with one mark more, which counts what the pass of its partition has seen
-  pub marks_more : (marks : List Mark) (notes : List CallNote) (passes : List (Told E)) → AreMarks key_of marks notes passes → (note : CallNote) (pass : Told E)
-      → slice_get passes (call_in note).partition ≡ Some pass → AreMarks key_of (marks ++ record { note = note; count = length pass.seen } ∷ []) (notes ++ note ∷ []) passes
-  marks_more marks notes passes are note pass there = record {
-    notes_are = ap (λ (l : List CallNote). l ++ note ∷ []) are.notes_are ∙ sym (map-append (λ (m : Mark). m.note) marks (mark ∷ []));
-    rise = λ i j first second less one two same. ⊎_elim
-        (λ (b : slice_get marks j ≡ Some second). ⊎_elim
-        (λ (a : slice_get marks i ≡ Some first). are.rise i j first second less a b same)
-        (λ (a : (i ≡ length marks) × (first ≡ mark)). let inside : j < length marks = slice_get_within marks j second b in let e : i ≡ length marks = a.0 in absurd (omega (arith, inside, e, less)))
-        (get_pushed marks mark i first one))
-        (λ (b : (j ≡ length marks) × (second ≡ mark)). ⊎_elim
-        (λ (a : slice_get marks i ≡ Some first).
-        let its : slice_get passes (call_in first.note).partition ≡ Some pass = ap (slice_get passes) (same ∙ ap (λ (m : Mark). (call_in m.note).partition) b.1) ∙ there in
-        let most : first.count ≤ length pass.seen = are.within i first pass a its in
-        subst (λ (m : Mark). first.count ≤ m.count) (sym b.1) most)
-        (λ (a : (i ≡ length marks) × (first ≡ mark)). let e : i ≡ length marks = a.0 in let f : j ≡ length marks = b.0 in absurd (omega (arith, e, f, less)))
-        (get_pushed marks mark i first one))
-        (get_pushed marks mark j second two);
-    within = λ at m p stands here. ⊎_elim
-        (λ (a : slice_get marks at ≡ Some m). are.within at m p a here)
-        (λ (a : (at ≡ length marks) × (m ≡ mark)).
-        let same : p ≡ pass = same_some p pass (sym here ∙ (ap (λ (n : Mark). slice_get passes (call_in n.note).partition) a.1 ∙ there)) in
-        subst (λ (t : Told E). m.count ≤ length t.seen) (sym same) (subst (λ (n : Mark). n.count ≤ length pass.seen) (sym a.1) (omega arith)))
-        (get_pushed marks mark at m stands);
-  }
-    where
-      mark : Mark
-      mark = record { note = note; count = length pass.seen }
+  -- where the mark is of a call, it counts all that the pass of its partition has seen
+  abbrev pub CountsAll : List (Told E) → Mark → Type 0
+  CountsAll passes mark = (partition : ℕ) → IsMarkIn mark partition → (pass : Told E) × (slice_get passes partition ≡ Some pass) × (mark.count ≡ length pass.seen)
 
-  pub marks_none : (notes : List CallNote) (passes : List (Told E)) → notes ≡ [] → AreMarks key_of [] notes passes
-  marks_none notes passes none = record {
-    notes_are = none;
-    rise = λ i j first second less one two same. absurd (none_some first one);
-    within = λ at mark pass there here. absurd (none_some mark there);
+  -- with more marks that count all
+  pub marks_more : (marks more : List Mark) (journal : List Entry) (passes : List (Told E)) → AreMarks key_of marks journal passes
+      → ((at : ℕ) (mark : Mark) → slice_get more at ≡ Some mark → CountsAll passes mark) → AreMarks key_of (marks ++ more) (journal ++ entries_of more) passes
+  marks_more marks more journal passes are counts = record {
+    entries_are = ap (λ (l : List Entry). l ++ entries_of more) are.entries_are ∙ sym (map-append (λ (m : Mark). m.entry) marks more);
+    rise = λ partition i j first second less one two in_first in_second. ⊎_elim
+        (λ (b : slice_get marks j ≡ Some second). ⊎_elim
+        (λ (a : slice_get marks i ≡ Some first). are.rise partition i j first second less a b in_first in_second)
+        (λ (a : Behind marks more i first). let inside : j < length marks = slice_get_within marks j second b in let e : i ≡ length marks + a.0 = a.1 in absurd (omega (arith, inside, e, less)))
+        (get_either marks more i first one))
+        (λ (b : Behind marks more j second).
+        let its = counts b.0 second b.2 partition in_second in
+        let all : second.count ≡ length its.0.seen = its.2 in ⊎_elim
+        (λ (a : slice_get marks i ≡ Some first). let most : first.count ≤ length its.0.seen = are.within partition i first its.0 a in_first its.1 in omega (arith, all, most))
+        (λ (a : Behind marks more i first).
+        let same = counts a.0 first a.2 partition in_first in
+        let before : first.count ≡ length its.0.seen = same.2 ∙ ap (λ (t : Told E). length t.seen) (same_some same.0 its.0 (sym same.1 ∙ its.1)) in omega (arith, all, before))
+        (get_either marks more i first one))
+        (get_either marks more j second two);
+    within = λ partition at mark pass stands its here. ⊎_elim
+        (λ (a : slice_get marks at ≡ Some mark). are.within partition at mark pass a its here)
+        (λ (a : Behind marks more at mark).
+        let same = counts a.0 mark a.2 partition its in
+        let all : mark.count ≡ length pass.seen = same.2 ∙ ap (λ (t : Told E). length t.seen) (same_some same.0 pass (sym same.1 ∙ here)) in omega (arith, all))
+        (get_either marks more at mark stands);
+  }
+
+  pub marks_none : (journal : List Entry) (passes : List (Told E)) → journal ≡ [] → AreMarks key_of [] journal passes
+  marks_none journal passes none = record {
+    entries_are = none;
+    rise = λ partition i j first second less one two in_first in_second. absurd (none_some first one);
+    within = λ partition at mark pass there its here. absurd (none_some mark there);
   }
 
   -- Numbers that no client is served by
 
   -- what passes have seen that have seen more, of a number that was a name of theirs
-  pub own_of : (number : ℕ) (old new : List (Told E)) → HaveGone key_of old new → HaveNumber number old → (id : CallId) (partition at : ℕ) → id.conn ≡ number
+  pub own_seen : (number : ℕ) (old new : List (Told E)) → HaveGone key_of old new → HaveNumber number old → (id : CallId) (partition at : ℕ) → id.conn ≡ number
       → StandsAt key_of id (seen_of new partition) at → StandsAt key_of id (seen_of old partition) at
-  own_of number old new gone named id partition at mine = go (slice_get new partition) refl
+  own_seen number old new gone named id partition at mine = go (slice_get new partition) refl
     where
       go : (now : Option (Told E)) → slice_get new partition ≡ now → StandsAt key_of id (seen_at now) at → StandsAt key_of id (seen_of old partition) at
       go None e stands = absurd (none_some stands.event stands.there)
@@ -209,7 +231,7 @@ module _ {E : Type 0} (key_of : E → Key) where
 
   pub rested_on : (marks more : List Mark) (number : ℕ) (old new : List (Told E)) → HaveGone key_of old new → HaveNumber number old → KeepsMarks key_of marks number (seen_of old)
       → KeepsMarks key_of (marks ++ more) number (seen_of new)
-  rested_on marks more number old new gone named keeps = keeps_on marks more number (seen_of old) (seen_of new) keeps (own_of number old new gone named)
+  rested_on marks more number old new gone named keeps = keeps_on marks more number (seen_of old) (seen_of new) keeps (own_seen number old new gone named)
 
   -- none of a number was seen
   pub keeps_none : (marks : List Mark) (number : ℕ) (seen : ℕ → List E) → ((partition : ℕ) → AreBelow key_of number 0 (seen partition)) → KeepsMarks key_of marks number seen
@@ -224,9 +246,9 @@ module _ {E : Type 0} (key_of : E → Key) where
       go None e = tt
       go (Some pass) e = none partition pass e
 
-  -- Calls that keep to marks were run in the order that was noted
-  pub keeps_order : (marks : List Mark) (notes : List CallNote) (passes : List (Told E)) → AreMarks key_of marks notes passes → ((number : ℕ) → KeepsMarks key_of marks number (seen_of passes)) → KeepsOrder key_of notes passes
-  keeps_order marks notes passes are keeps = record {
+  -- Calls that keep to marks were run in the order of the journal
+  pub keeps_order : (marks : List Mark) (journal : List Entry) (passes : List (Told E)) → AreMarks key_of marks journal passes → ((number : ℕ) → KeepsMarks key_of marks number (seen_of passes)) → KeepsOrder key_of journal passes
+  keeps_order marks journal passes are keeps = record {
     noted = λ call place seen. let b = between call place seen in record {
       start = b.start;
       finish = b.finish;
@@ -237,7 +259,7 @@ module _ {E : Type 0} (key_of : E → Key) where
     in_order = λ first second place place' one two same less.
         let a = between first place one in
         let b = between second place' two in
-        let rose : a.after ≤ b.before = are.rise a.finish b.start (record { note = Finished first; count = a.after }) (record { note = Started second; count = b.before }) less a.finished b.started same in
+        let rose : a.after ≤ b.before = are.rise second.partition a.finish b.start (record { entry = Finished first; count = a.after }) (record { entry = Started second; count = b.before }) less a.finished b.started same refl in
         let inside : place < a.after = a.within in
         let behind : b.before ≤ place' = b.behind in
         omega (arith, rose, inside, behind);
@@ -246,17 +268,17 @@ module _ {E : Type 0} (key_of : E → Key) where
       between : (call : NotedCall) (place : ℕ) → WasSeenAt key_of passes call place → IsBetween marks call place
       between call place seen = keeps call.id.conn call place refl (subst (λ (o : Option (Told E)). StandsAt key_of call.id (seen_at o) place) (sym seen.there) seen.stands)
 
-      mapped : (list : List Mark) (at : ℕ) (mark : Mark) → slice_get list at ≡ Some mark → slice_get (map (λ (m : Mark). m.note) list) at ≡ Some mark.note
-      mapped = get_mapped (λ (m : Mark). m.note)
+      mapped : (list : List Mark) (at : ℕ) (mark : Mark) → slice_get list at ≡ Some mark → slice_get (map (λ (m : Mark). m.entry) list) at ≡ Some mark.entry
+      mapped = get_mapped (λ (m : Mark). m.entry)
 
-      as_noted : (at : ℕ) (mark : Mark) → slice_get marks at ≡ Some mark → slice_get notes at ≡ Some mark.note
-      as_noted at mark there = ap (λ (l : List CallNote). slice_get l at) are.notes_are ∙ mapped marks at mark there
+      as_noted : (at : ℕ) (mark : Mark) → slice_get marks at ≡ Some mark → slice_get journal at ≡ Some mark.entry
+      as_noted at mark there = ap (λ (l : List Entry). slice_get l at) are.entries_are ∙ mapped marks at mark there
 
 module _ {T P E O F K : Type 0} (key_of : E → Key) (tells : P → List E → E → LiveOutcome → Type 0) (call_of : ℕ → Request → ℕ → E) (place : Workplace T P E O) (given : List ℕ) (telling : Telling F K) where
-  -- a client is served as before, as more is noted
-  pub still_marked : (arrivals : List Arrival) (marks more : List Mark) (client : Client T F K P E O) → IsServedSince key_of tells call_of place given telling arrivals marks client
-      → IsServedSince key_of tells call_of place given telling arrivals (marks ++ more) client
-  still_marked arrivals marks more client served = record {
+  -- a client is served as before, as more is done for others
+  pub still_marked : (arrivals : List Arrival) (marks more : List Mark) (client : Client T F K P E O) → own_of client.number (entries_of more) ≡ []
+      → IsServedSince key_of tells call_of place given telling arrivals marks client → IsServedSince key_of tells call_of place given telling arrivals (marks ++ more) client
+  still_marked arrivals marks more client none served = record {
     arrival = served.arrival;
     came = served.came;
     conn = served.conn;
@@ -264,8 +286,9 @@ module _ {T P E O F K : Type 0} (key_of : E → Key) (tells : P → List E → E
     read = served.read;
     written = served.written;
     moved = served.moved;
-    starts = served.starts;
+    log = served.log;
     by_clock = served.by_clock;
+    by_journal = served.by_journal ∙ sym (marks_stay client.number marks more none);
     seen = served.seen;
     served = served.served;
     marked = keeps_more key_of marks more client.number served.seen served.marked;

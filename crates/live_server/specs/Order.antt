@@ -1,18 +1,19 @@
--- In what order a loop's calls were run, by what was noted of them.
-use Rattle.std.specs.Prelude.{◌≡◌, ℕ, ◌<◌, ◌≤◌, List, [], length, map, Option, Some, None, slice_get}
+-- In what order a loop's calls were run, by its journal.
+use Rattle.std.specs.Prelude.{◌≡◌, ℕ, ◌<◌, ◌≤◌, List, [], length, map, Option, Some, None, IsSomeAnd, slice_get}
 use Rattle.hand_cell.specs.declared.names.Key.{Key}
 use Rattle.hand_cell.specs.Told.{Told, SeesMore, having_seen}
-use Rattle.live_session.specs.declared.note.CallNote.{CallNote}
-use Rattle.live_session.specs.declared.note.CallNote.TheVariants.{Started, Finished}
-use Rattle.live_session.specs.declared.note.NotedCall.{NotedCall}
+use Rattle.loop_journal.specs.Journals.{call_in}
+use Rattle.loop_journal.specs.declared.entry.Entry.{Entry}
+use Rattle.loop_journal.specs.declared.entry.Entry.TheVariants.{Started, Finished}
+use Rattle.loop_journal.specs.declared.entry.NotedCall.{NotedCall}
 use Rattle.live_session.specs.Connections.{StandsAt}
 
 -- The start of a call and its finish are noted, in this order
-pub record IsNoted (notes : List CallNote) (call : NotedCall) : Type 0 where
+pub record IsNoted (journal : List Entry) (call : NotedCall) : Type 0 where
   pub start : ℕ
   pub finish : ℕ
-  pub started : slice_get notes start ≡ Some (Started call)
-  pub finished : slice_get notes finish ≡ Some (Finished call)
+  pub started : slice_get journal start ≡ Some (Started call)
+  pub finished : slice_get journal finish ≡ Some (Finished call)
   pub in_turn : start < finish
 
 module _ {E : Type 0} (key_of : E → Key) where
@@ -23,21 +24,25 @@ module _ {E : Type 0} (key_of : E → Key) where
     pub stands : StandsAt key_of call.id pass.seen place
 
   -- Each call whose event was seen is noted. Where it was finished before another one of its partition was started, its event stands first
-  pub record KeepsOrder (notes : List CallNote) (passes : List (Told E)) : Type 0 where
-    pub noted : (call : NotedCall) (place : ℕ) → WasSeenAt passes call place → IsNoted notes call
+  pub record KeepsOrder (journal : List Entry) (passes : List (Told E)) : Type 0 where
+    pub noted : (call : NotedCall) (place : ℕ) → WasSeenAt passes call place → IsNoted journal call
     pub in_order : (first second : NotedCall) (place place' : ℕ) (one : WasSeenAt passes first place) (two : WasSeenAt passes second place') → first.partition ≡ second.partition
         → (noted first place one).finish < (noted second place' two).start → place < place'
 
 -- What a loop keeps for it
 
--- a note, and how many events of the call's partition the loop's passes had seen then
+-- an entry of the journal; and where it is of a call, how many events of the call's partition the loop's passes had seen then
 pub record Mark : Type 0 where
-  pub note : CallNote
+  pub entry : Entry
   pub count : ℕ
 
-abbrev pub call_in : CallNote → NotedCall
-call_in (Started call) = call
-call_in (Finished call) = call
+-- the entries of which these are the marks
+abbrev pub entries_of : List Mark → List Entry
+entries_of marks = map (λ mark. mark.entry) marks
+
+-- the mark is of a call of this partition
+abbrev pub IsMarkIn : Mark → ℕ → Type 0
+IsMarkIn mark partition = IsSomeAnd (call_in mark.entry) (λ call. call.partition ≡ partition)
 
 -- The call's event stands at this place: behind all that was seen as the call was started, and among what was seen as it was finished
 pub record IsBetween (marks : List Mark) (call : NotedCall) (place : ℕ) : Type 0 where
@@ -45,8 +50,8 @@ pub record IsBetween (marks : List Mark) (call : NotedCall) (place : ℕ) : Type
   pub finish : ℕ
   pub before : ℕ
   pub after : ℕ
-  pub started : slice_get marks start ≡ Some (record { note = Started call; count = before })
-  pub finished : slice_get marks finish ≡ Some (record { note = Finished call; count = after })
+  pub started : slice_get marks start ≡ Some (record { entry = Started call; count = before })
+  pub finished : slice_get marks finish ≡ Some (record { entry = Finished call; count = after })
   pub in_turn : start < finish
   pub behind : before ≤ place
   pub within : place < after
@@ -55,7 +60,7 @@ pub record IsBetween (marks : List Mark) (call : NotedCall) (place : ℕ) : Type
 pub record IsMarked (marks : List Mark) (call : NotedCall) (seen : ℕ) : Type 0 where
   pub start : ℕ
   pub before : ℕ
-  pub started : slice_get marks start ≡ Some (record { note = Started call; count = before })
+  pub started : slice_get marks start ≡ Some (record { entry = Started call; count = before })
   pub behind : before ≤ seen
 
 module _ {E : Type 0} (key_of : E → Key) where
@@ -63,12 +68,13 @@ module _ {E : Type 0} (key_of : E → Key) where
   abbrev pub KeepsMarks : List Mark → ℕ → (ℕ → List E) → Type 0
   KeepsMarks marks conn seen = (call : NotedCall) (place : ℕ) → call.id.conn ≡ conn → StandsAt key_of call.id (seen call.partition) place → IsBetween marks call place
 
-  -- The marks are those of the notes. Of one partition none counts fewer than an earlier one, nor more than these passes have seen
-  pub record AreMarks (marks : List Mark) (notes : List CallNote) (passes : List (Told E)) : Type 0 where
-    pub notes_are : notes ≡ map (λ mark. mark.note) marks
-    pub rise : (earlier later : ℕ) (mark next : Mark) → earlier < later → slice_get marks earlier ≡ Some mark → slice_get marks later ≡ Some next
-        → (call_in mark.note).partition ≡ (call_in next.note).partition → mark.count ≤ next.count
-    pub within : (at : ℕ) (mark : Mark) (pass : Told E) → slice_get marks at ≡ Some mark → slice_get passes (call_in mark.note).partition ≡ Some pass → mark.count ≤ length pass.seen
+  -- The marks are those of the journal. Of one partition none counts fewer than an earlier one, nor more than these passes have seen
+  pub record AreMarks (marks : List Mark) (journal : List Entry) (passes : List (Told E)) : Type 0 where
+    pub entries_are : journal ≡ entries_of marks
+    pub rise : (partition earlier later : ℕ) (mark next : Mark) → earlier < later → slice_get marks earlier ≡ Some mark → slice_get marks later ≡ Some next
+        → IsMarkIn mark partition → IsMarkIn next partition → mark.count ≤ next.count
+    pub within : (partition at : ℕ) (mark : Mark) (pass : Told E) → slice_get marks at ≡ Some mark → IsMarkIn mark partition → slice_get passes partition ≡ Some pass
+        → mark.count ≤ length pass.seen
 
   -- The passes at the same places have the same names, and have seen more. None of that has a name of theirs
   pub record HaveLearned (old new : List (Told E)) : Type 0 where

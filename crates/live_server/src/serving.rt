@@ -5,6 +5,7 @@ ghost use Rattle.live_session.specs.Connections.{ServesCalls};
 ghost use Rattle.live_server.specs.Clients.{telling_by};
 ghost use Rattle.live_server.specs.Order.{KeepsOrder};
 ghost use Rattle.live_server.specs.Serving.{HasServedAll};
+ghost use Rattle.live_server.specs.Times.{AnswersStandFirst};
 ghost use Rattle.live_server.specs.Rounds.{IsAfter, ComesTo};
 ghost use Rattle.live_server.specs.Standing.{MayServe, Rests, HasLetAllIn, IsSince, IsServing};
 
@@ -15,7 +16,7 @@ use crate::entrance::{Entrance, Outside};
 use crate::rounds::go_round;
 use grid_edge::{Clock, DoorFault, Doors};
 use hand_cell::Served;
-use live_session::CallNotes;
+use loop_journal::Journal;
 use partition_threads::Workplace;
 use std::alloc::Global;
 use std::sync::Wait;
@@ -38,10 +39,13 @@ const LONGEST_SLEEP: u32 = 1000;
 /// the doors has the same effect, and is answered then. Where nothing is ready the thread sleeps at the doors, and
 /// whoever answers a call or closes the server wakes it there.
 ///
-/// Calls of different connections keep an order too: where one call's outcome was found before another call of its
-/// partition was started, its event stands first (`KeepsOrder`). Both starts are noted as the loop comes to them, by
-/// `Connection::turn_among` alone. That an answer is written after its outcome was found, and a call started after it was
-/// read, is the order of the program's steps: no clause says it. Nothing is said of calls of two servers.
+/// Calls of different connections keep an order too. The journal has all that was read from connections and written to
+/// them, in the order in which it was. Of two calls of one partition, on any connections: where some byte of the answer to
+/// the one was written before the last byte of the other was read, its event stands first (`AnswersStandFirst`). So a
+/// client that had an answer before another sent its call stands first, if that call is of its partition. It is so since a
+/// call is started once its message has come, and its answer is written once its outcome was found, by the same journal
+/// (`HasAnswered`); and where one call's outcome was found before another was started, its event stands first
+/// (`KeepsOrder`). Nothing is said of calls of two servers.
 ///
 /// A round costs a turn of each connection that isn't ready, and up to eight of one that is.
 pub fn serve<T: Served, D: Doors, C: Clock, R: Wait>(
@@ -55,9 +59,13 @@ pub fn serve<T: Served, D: Doors, C: Clock, R: Wait>(
 ) -> Result<Closed<D>, DoorFault>
     requires calls { ServesCalls T.fits place.now }
     requires may { MayServe T.key_of place.now connections.old (D.book doors.old) }
-    ensures served { HasServedAll T.key_of T.tells T.call_of place.now (C.given clock.new) connections.new.passes.items (D.book doors.new) }
-    ensures in_order { KeepsOrder T.key_of connections.new.notes connections.new.passes.items }
-    ensures all_in { IfOk result (λ closed. HasLetAllIn (D.empty_looks doors.old) (D.empty_looks closed) (D.empty_looks doors.new) (length (D.book doors.new).arrivals)) }
+    ensures served { HasServedAll T.key_of T.tells T.call_of place.now (C.given clock.new)
+        connections.new.journal connections.new.passes.items (D.book doors.new) }
+    ensures in_order { KeepsOrder T.key_of connections.new.journal connections.new.passes.items }
+    ensures in_time { AnswersStandFirst T.key_of T.tells T.call_of place.now (C.given clock.new)
+        connections.new.journal connections.new.passes.items (D.book doors.new) }
+    ensures all_in { IfOk result (λ closed. HasLetAllIn (D.empty_looks doors.old) (D.empty_looks closed)
+        (D.empty_looks doors.new) (length (D.book doors.new).arrivals)) }
     ensures rests { Rests place.now connections.new }
     ensures opening { (D.book doors.new).opening ≡ (D.book doors.old).opening }
     ensures cause { HasCause (D.faults doors.old) (D.faults doors.new) result }
@@ -90,7 +98,7 @@ pub enum Round<D> {
 }
 
 impl<D: Doors> Rounds<D> {
-    /// Before the first round. No connection has come, and no call is noted.
+    /// Before the first round. No connection has come, and nothing was done for one.
     pub fn new<T: Served, C: Clock>(
         place: &Workplace<T>,
         connections: &mut Connections<T, D::From, D::To>,
@@ -98,13 +106,14 @@ impl<D: Doors> Rounds<D> {
         clock: &C,
     ) -> Rounds<D>
         requires { MayServe T.key_of place.now connections.old (D.book doors.now) }
-        ensures serving { IsServing T.key_of T.tells T.call_of place.now (C.given clock.now) (telling_by D.From.given D.From.faults D.To.taken D.To.faults) connections.new (D.book doors.now) }
+        ensures serving { IsServing T.key_of T.tells T.call_of place.now (C.given clock.now)
+            (telling_by D.From.given D.From.faults D.To.taken D.To.faults) connections.new (D.book doors.now) }
         ensures since { (looks faults accepted : ℕ) → IsAfter D.empty_looks result looks looks faults faults accepted }
     {
         let _ = place;
         let _ = doors;
         let _ = clock;
-        connections.notes = CallNotes::new();
+        connections.journal = Journal::new();
         Rounds {
             entrance: Entrance::Open,
             idle: 0,
@@ -126,10 +135,14 @@ pub fn serve_round<T: Served, D: Doors, C: Clock, R: Wait>(
     rounds: Rounds<D>,
 ) -> Round<D>
     requires calls { ServesCalls T.fits place.now }
-    requires serving { IsServing T.key_of T.tells T.call_of place.now (C.given clock.old) (telling_by D.From.given D.From.faults D.To.taken D.To.faults) connections.old (D.book doors.old) }
-    ensures serving { IsServing T.key_of T.tells T.call_of place.now (C.given clock.new) (telling_by D.From.given D.From.faults D.To.taken D.To.faults) connections.new (D.book doors.new) }
-    ensures since { (looks faults : ℕ) → IsAfter D.empty_looks rounds looks (D.empty_looks doors.old) faults (D.faults doors.old) (length (D.book doors.old).arrivals)
-        → ComesTo D.empty_looks result connections.new.clients.items looks (D.empty_looks doors.new) faults (D.faults doors.new) (length (D.book doors.new).arrivals) }
+    requires serving { IsServing T.key_of T.tells T.call_of place.now (C.given clock.old)
+        (telling_by D.From.given D.From.faults D.To.taken D.To.faults) connections.old (D.book doors.old) }
+    ensures serving { IsServing T.key_of T.tells T.call_of place.now (C.given clock.new)
+        (telling_by D.From.given D.From.faults D.To.taken D.To.faults) connections.new (D.book doors.new) }
+    ensures since { (looks faults : ℕ) → IsAfter D.empty_looks rounds looks (D.empty_looks doors.old)
+        faults (D.faults doors.old) (length (D.book doors.old).arrivals)
+        → ComesTo D.empty_looks result connections.new.clients.items looks (D.empty_looks doors.new)
+        faults (D.faults doors.new) (length (D.book doors.new).arrivals) }
     ensures opening { (D.book doors.new).opening ≡ (D.book doors.old).opening }
 {
     let Rounds { entrance, idle } = rounds;
@@ -155,9 +168,12 @@ fn look_outside<T: Served, D: Doors, C: Clock>(
     closing: &Closing,
     entrance: Entrance<D>,
 ) -> Outside<D>
-    requires { IsServing T.key_of T.tells T.call_of place.now (C.given clock.now) (telling_by D.From.given D.From.faults D.To.taken D.To.faults) connections.old (D.book doors.old) }
-    ensures serving { IsServing T.key_of T.tells T.call_of place.now (C.given clock.now) (telling_by D.From.given D.From.faults D.To.taken D.To.faults) connections.new (D.book doors.new) }
-    ensures since { (looks faults : ℕ) → IsSince D.empty_looks entrance looks (D.empty_looks doors.old) faults (D.faults doors.old) (length (D.book doors.old).arrivals)
+    requires { IsServing T.key_of T.tells T.call_of place.now (C.given clock.now)
+        (telling_by D.From.given D.From.faults D.To.taken D.To.faults) connections.old (D.book doors.old) }
+    ensures serving { IsServing T.key_of T.tells T.call_of place.now (C.given clock.now)
+        (telling_by D.From.given D.From.faults D.To.taken D.To.faults) connections.new (D.book doors.new) }
+    ensures since { (looks faults : ℕ) → IsSince D.empty_looks entrance looks (D.empty_looks doors.old)
+        faults (D.faults doors.old) (length (D.book doors.old).arrivals)
         → IsSince D.empty_looks result.entrance looks (D.empty_looks doors.new) faults (D.faults doors.new) (length (D.book doors.new).arrivals) }
     ensures opening { (D.book doors.new).opening ≡ (D.book doors.old).opening }
 {

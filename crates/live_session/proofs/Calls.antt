@@ -10,7 +10,7 @@ use Rattle.session_core.specs.declared.item.Item.{Item}
 use Rattle.live_session.specs.Connections.{IsBelow, AreBelow, IsCallOf, AreCallsOf}
 use Rattle.live_session.proofs.Numbers.{below_both}
 use Rattle.live_session.proofs.Places.{get_front}
-use Rattle.live_session.specs.Starts.{Start, start_of}
+use Rattle.live_session.specs.Starts.{Start, Log, start_of}
 
 -- Where an element of two lists stands
 
@@ -57,7 +57,7 @@ module _ {E : Type 0} (key_of : E → Key) (conn : ℕ) where
   none_there [] after event id below key mine = let l : id.number < 0 = subst (λ (k : Key). IsBelow conn 0 k) key below.0 mine in omega (arith, l)
   none_there (x ∷ before) after event id below key mine = none_there before after event id below.1 key mine
 
-module _ {T P E O : Type 0} (key_of : E → Key) (tells : P → List E → E → LiveOutcome → Type 0) (call_of : ℕ → Request → ℕ → E) (starts : List Start) (place : Workplace T P E O) where
+module _ {T P E O : Type 0} (key_of : E → Key) (tells : P → List E → E → LiveOutcome → Type 0) (call_of : ℕ → Request → ℕ → E) (log : Log) (place : Workplace T P E O) where
   -- One call of the connection came behind what was seen: that of one of these messages, later than all that were seen before
   pub record ComesOnce (items : List Item) (conn member partition : ℕ) (seen later : List E) : Type 0 where
     pub before : List E
@@ -66,7 +66,7 @@ module _ {T P E O : Type 0} (key_of : E → Key) (tells : P → List E → E →
     pub whole : later ≡ before ++ event ∷ after
     pub id : CallId
     pub key : key_of event ≡ CallKey id
-    pub is_call : IsCallOf key_of tells call_of starts place items member partition event id
+    pub is_call : IsCallOf key_of tells call_of log place items member partition event id
     pub none_before : AreBelow key_of conn 0 before
     pub none_after : AreBelow key_of conn 0 after
     pub behind : AreBelow key_of conn id.number seen
@@ -76,7 +76,7 @@ module _ {T P E O : Type 0} (key_of : E → Key) (tells : P → List E → E →
   MayCome items conn member partition seen later = AreBelow key_of conn 0 later ⊎ ComesOnce items conn member partition seen later
 
   -- none was seen
-  pub none_called : (items : List Item) (conn member partition : ℕ) (seen : List E) → AreBelow key_of conn 0 seen → AreCallsOf key_of tells call_of starts place items conn member partition seen
+  pub none_called : (items : List Item) (conn member partition : ℕ) (seen : List E) → AreBelow key_of conn 0 seen → AreCallsOf key_of tells call_of log place items conn member partition seen
   none_called items conn member partition seen none = λ before after event id whole key mine.
       absurd (none_there key_of conn before after event id (subst (λ (l : List E). AreBelow key_of conn 0 l) whole none) key mine)
 
@@ -99,8 +99,8 @@ module _ {T P E O : Type 0} (key_of : E → Key) (tells : P → List E → E →
         last (x ∷ xs) at e = absurd (none_there key_of conn xs after event id
             (subst (λ (l : List E). AreBelow key_of conn 0 l) (rest_same once.event x once.after (xs ++ event ∷ after) e) once.none_after) key mine)
 
-    pub calls_more : AreCallsOf key_of tells call_of starts place items conn member partition seen → MayCome items conn member partition seen later
-        → AreCallsOf key_of tells call_of starts place items conn member partition (seen ++ later)
+    pub calls_more : AreCallsOf key_of tells call_of log place items conn member partition seen → MayCome items conn member partition seen later
+        → AreCallsOf key_of tells call_of log place items conn member partition (seen ++ later)
     calls_more calls may = λ before after event id whole key mine. ⊎_elim
         (λ (f : InFirst seen before event). calls before f.rest event id f.whole key mine)
         (λ (s : InSecond seen later before event after). ⊎_elim
@@ -119,19 +119,19 @@ module _ {T P E O : Type 0} (key_of : E → Key) (tells : P → List E → E →
         zero_or_less (suc n) = inl (omega arith)
 
         came : (once : ComesOnce items conn member partition seen later) (before : List E) (event : E) (id : CallId) → key_of event ≡ CallKey id → before ≡ seen ++ once.before → event ≡ once.event
-            → IsCallOf key_of tells call_of starts place items member partition event id × AreBelow key_of conn id.number before
+            → IsCallOf key_of tells call_of log place items member partition event id × AreBelow key_of conn id.number before
         came once before event id key at same =
             let named : once.id ≡ id = same_call once.id id (sym once.key ∙ (ap key_of (sym same) ∙ key)) in (
-              subst (λ (e : E). IsCallOf key_of tells call_of starts place items member partition e id) (sym same)
-                  (subst (λ (i : CallId). IsCallOf key_of tells call_of starts place items member partition once.event i) named once.is_call),
+              subst (λ (e : E). IsCallOf key_of tells call_of log place items member partition e id) (sym same)
+                  (subst (λ (i : CallId). IsCallOf key_of tells call_of log place items member partition once.event i) named once.is_call),
               subst (λ (l : List E). AreBelow key_of conn id.number l) (sym at)
                   (subst (λ (i : CallId). AreBelow key_of conn i.number (seen ++ once.before)) named
                   (below_both key_of conn once.id.number seen once.before once.behind (no_less key_of conn once.id.number 0 (zero_or_less once.id.number) once.before once.none_before))),
             )
 
   -- the messages go on
-  pub calls_longer : (items more : List Item) (conn member partition : ℕ) (seen : List E) → AreCallsOf key_of tells call_of starts place items conn member partition seen
-      → AreCallsOf key_of tells call_of starts place (items ++ more) conn member partition seen
+  pub calls_longer : (items more : List Item) (conn member partition : ℕ) (seen : List E) → AreCallsOf key_of tells call_of log place items conn member partition seen
+      → AreCallsOf key_of tells call_of log place (items ++ more) conn member partition seen
   calls_longer items more conn member partition seen calls = λ before after event id whole key mine.
       let was = calls before after event id whole key mine in (
         record {
@@ -145,10 +145,10 @@ module _ {T P E O : Type 0} (key_of : E → Key) (tells : P → List E → E →
         was.1,
       )
 
-module _ {T P E O : Type 0} (key_of : E → Key) (tells : P → List E → E → LiveOutcome → Type 0) (call_of : ℕ → Request → ℕ → E) (starts starts_now : List Start) (place : Workplace T P E O) where
+module _ {T P E O : Type 0} (key_of : E → Key) (tells : P → List E → E → LiveOutcome → Type 0) (call_of : ℕ → Request → ℕ → E) (log log_now : Log) (place : Workplace T P E O) where
   -- with more starts
-  pub calls_since : ((one : Start) → Contains starts one → Contains starts_now one) → (items : List Item) (conn member partition : ℕ) (seen : List E)
-      → AreCallsOf key_of tells call_of starts place items conn member partition seen → AreCallsOf key_of tells call_of starts_now place items conn member partition seen
+  pub calls_since : ((one : Start) → Contains log.starts one → Contains log_now.starts one) → (items : List Item) (conn member partition : ℕ) (seen : List E)
+      → AreCallsOf key_of tells call_of log place items conn member partition seen → AreCallsOf key_of tells call_of log_now place items conn member partition seen
   calls_since among items conn member partition seen calls = λ before after event id whole key mine.
       let was = calls before after event id whole key mine in (
         record {

@@ -10,6 +10,7 @@ use Rattle.hand_cell.specs.declared.outcome.LiveOutcome.{LiveOutcome}
 use Rattle.hand_cell.specs.declared.outcome.LiveOutcome.TheVariants.{MemberGone as IsGone}
 use Rattle.hand_cell.specs.Names.{has_number}
 use Rattle.hand_cell.specs.Told.{Told}
+use Rattle.loop_journal.specs.declared.entry.Entry.{Entry}
 use Rattle.message_frames.specs.Messages.{messages_of}
 use Rattle.partition_threads.specs.declared.workplace.Workplace.{Workplace}
 use Rattle.session_calls.specs.declared.session.SessionPass.{SessionPass}
@@ -30,18 +31,20 @@ use Rattle.live_session.specs.declared.turned.Turned.{Turned}
 use Rattle.live_session.specs.declared.turned.Turned.TheVariants.{Moved, NotYet, Ended as Over}
 use Rattle.live_session.specs.Among.{StandsBehind}
 use Rattle.live_session.specs.Connections.{AreBelow, StandsAt, HasSeen, HaveSeen, HasAnswered, IsServed, IsServedWith, IsServedTo, HasEnded}
-use Rattle.live_session.specs.Turns.{Streams, Moves, IsFinished, IsOver, StandsAfter, HasTurned}
+use Rattle.live_session.specs.Turns.{Streams, Moves, IsFinished, HasNoted, IsOver, StandsAfter, HasTurned}
 use Rattle.live_session.proofs.Answering.{Grows, Kept, kept_by, kept_grown}
 use Rattle.live_session.proofs.Numbers.{AreOnly, none_only, none_below, stood_all, stands_within, stands_front}
 use Rattle.live_session.proofs.Passes.{seeing, seeing_there, seeing_each, seeing_whole, back_at}
 use Rattle.live_session.proofs.Places.{get_seam, same_some}
-use Rattle.live_session.specs.Starts.{Start, with_start}
+use Rattle.live_session.specs.Next.{noted_of}
+use Rattle.live_session.specs.Starts.{Log, after_turn}
+use Rattle.live_session.specs.Times.{IsNotedWhole}
 
-module _ {T P E O : Type 0} (key_of : E → Key) (tells : P → List E → E → LiveOutcome → Type 0) (call_of : ℕ → Request → ℕ → E) (starts : List Start) (place : Workplace T P E O)
+module _ {T P E O : Type 0} (key_of : E → Key) (tells : P → List E → E → LiveOutcome → Type 0) (call_of : ℕ → Request → ℕ → E) (log : Log) (place : Workplace T P E O)
     (c : Connection T P E O) (seen : ℕ → List E) (read written : List ℕ) (request : Request) (rest : List Item)
-    (served : IsServedWith key_of tells call_of starts place c None (Call request ∷ rest) seen read written) (cells : length place.cells.items ≡ PARTITIONS) where
-  had : Kept key_of tells call_of place starts c.pass.conn c.pass.member seen read written c.out (Call request ∷ rest)
-  had = subst (λ (r : List Item). Kept key_of tells call_of place starts c.pass.conn c.pass.member seen read written c.out r) served.remains.rest_is (record { answers = served.answers; below = served.below })
+    (served : IsServedWith key_of tells call_of log place c None (Call request ∷ rest) seen read written) (cells : length place.cells.items ≡ PARTITIONS) where
+  had : Kept key_of tells call_of place log c.pass.conn c.pass.member seen read written c.out (Call request ∷ rest)
+  had = subst (λ (r : List Item). Kept key_of tells call_of place log c.pass.conn c.pass.member seen read written c.out r) served.remains.rest_is (record { answers = served.answers; below = served.below })
 
   here : slice_get (items_of c.pass.conn c.pass.member (messages_of true read)) (length had.answers.answered) ≡ Some (Call request)
   here = ap (λ (l : List Item). slice_get l (length had.answers.answered)) had.answers.whole ∙ get_seam had.answers.answered (Call request) rest
@@ -80,7 +83,7 @@ module _ {T P E O : Type 0} (key_of : E → Key) (tells : P → List E → E →
     none_of_own = seeing_each (λ p. []) request.partition later (λ p l. AreBelow key_of c.pass.conn 0 l)
         (none_below key_of c.pass.conn 0 learned.pass.names later named learned.learned.sees_more.2) (λ p. tt)
 
-    grown : Grows key_of tells call_of starts starts place c.pass.conn (length had.answers.answered) c.pass.member (items_of c.pass.conn c.pass.member (messages_of true read)) seen sees_then
+    grown : Grows key_of tells call_of log log place c.pass.conn (length had.answers.answered) c.pass.member (items_of c.pass.conn c.pass.member (messages_of true read)) seen sees_then
     grown = record {
       by = seeing (λ p. []) request.partition later;
       whole = seeing_whole seen request.partition learned.now.seen later now_is;
@@ -102,15 +105,15 @@ module _ {T P E O : Type 0} (key_of : E → Key) (tells : P → List E → E →
         (none_of_own partition)
         (subst (λ (l : List E). StandsAt key_of id l at) (seeing_whole seen request.partition learned.now.seen later now_is partition) is)
 
-    kept_then : Kept key_of tells call_of place starts c.pass.conn c.pass.member sees_then read written c.out (Call request ∷ rest)
+    kept_then : Kept key_of tells call_of place log c.pass.conn c.pass.member sees_then read written c.out (Call request ∷ rest)
     unfolding grown
-    kept_then = kept_grown key_of tells call_of place starts c.pass.conn c.pass.member seen sees_then read written c.out (Call request ∷ rest) had grown none
+    kept_then = kept_grown key_of tells call_of place log c.pass.conn c.pass.member seen sees_then read written c.out (Call request ∷ rest) had grown none
 
-    kept_now : Kept key_of tells call_of place starts pass_now.conn pass_now.member sees_then read written c.out (Call request ∷ rest)
-    kept_now = kept_by key_of tells call_of place starts c.pass.conn pass_now.conn c.pass.member pass_now.member sees_then read written c.out (Call request ∷ rest) learned.back.same_conn learned.back.same_member kept_then
+    kept_now : Kept key_of tells call_of place log pass_now.conn pass_now.member sees_then read written c.out (Call request ∷ rest)
+    kept_now = kept_by key_of tells call_of place log c.pass.conn pass_now.conn c.pass.member pass_now.member sees_then read written c.out (Call request ∷ rest) learned.back.same_conn learned.back.same_member kept_then
 
     -- its session learned of others, and it is served as before
-    pub learned_with : IsServedWith key_of tells call_of starts place (record c { pass = pass_now }) None (Call request ∷ rest) sees_then read written
+    pub learned_with : IsServedWith key_of tells call_of log place (record c { pass = pass_now }) None (Call request ∷ rest) sees_then read written
     learned_with = record {
       pass = kept;
       session = served.session ∙ (ap (λ (n : ℕ). session_after n c.pass.member read) (sym learned.back.same_conn) ∙ ap (λ (n : ℕ). session_after pass_now.conn n read) (sym learned.back.same_member));
@@ -121,6 +124,7 @@ module _ {T P E O : Type 0} (key_of : E → Key) (tells : P → List E → E →
         passes = back_at c.pass pass_now request.partition (Some learned.pass) learned.now learned.back learned.there named_now seen (λ p inside other. served.remains.passes p inside (λ absent. absent));
       };
       below = kept_now.below;
+      noted = subst (λ (n : ℕ). IsNotedWhole n log.entries read written) (sym learned.back.same_conn) served.noted;
     }
 
     -- by what these passes have seen
@@ -147,17 +151,17 @@ module _ {T P E O : Type 0} (key_of : E → Key) (tells : P → List E → E →
     named = ap (has_number was.pass.names.numbers) back.same_conn ∙ was.named;
   }
 
-  module _ (starts : List Start) (sees : ℕ → List E) where
-    at_session : (read written left : List ℕ) (rest : List Item) → HasAnswered key_of tells call_of starts place c.pass.conn c.pass.member sees read written left rest
-        → HasAnswered key_of tells call_of starts place pass_now.conn pass_now.member sees read written left rest
-    at_session read written left rest has = subst (λ (n : ℕ). HasAnswered key_of tells call_of starts place n pass_now.member sees read written left rest) (sym back.same_conn)
-        (subst (λ (m : ℕ). HasAnswered key_of tells call_of starts place c.pass.conn m sees read written left rest) (sym back.same_member) has)
+  module _ (log : Log) (sees : ℕ → List E) where
+    at_session : (read written left : List ℕ) (rest : List Item) → HasAnswered key_of tells call_of log place c.pass.conn c.pass.member sees read written left rest
+        → HasAnswered key_of tells call_of log place pass_now.conn pass_now.member sees read written left rest
+    at_session read written left rest has = subst (λ (n : ℕ). HasAnswered key_of tells call_of log place n pass_now.member sees read written left rest) (sym back.same_conn)
+        (subst (λ (m : ℕ). HasAnswered key_of tells call_of log place c.pass.conn m sees read written left rest) (sym back.same_member) has)
 
-    still_with : (items : List Item) (read written : List ℕ) → IsServedWith key_of tells call_of starts place c None items sees read written
-        → IsServedWith key_of tells call_of starts place after None items sees read written
+    still_with : (items : List Item) (read written : List ℕ) → IsServedWith key_of tells call_of log place c None items sees read written
+        → IsServedWith key_of tells call_of log place after None items sees read written
     still_with items read written served =
-        let now : Kept key_of tells call_of place starts pass_now.conn pass_now.member sees read written c.out served.rest =
-        kept_by key_of tells call_of place starts c.pass.conn pass_now.conn c.pass.member pass_now.member sees read written c.out served.rest back.same_conn back.same_member
+        let now : Kept key_of tells call_of place log pass_now.conn pass_now.member sees read written c.out served.rest =
+        kept_by key_of tells call_of place log c.pass.conn pass_now.conn c.pass.member pass_now.member sees read written c.out served.rest back.same_conn back.same_member
         (record { answers = served.answers; below = served.below }) in record {
           pass = kept;
           session = served.session ∙ (ap (λ (n : ℕ). session_after n c.pass.member read) (sym back.same_conn) ∙ ap (λ (n : ℕ). session_after pass_now.conn n read) (sym back.same_member));
@@ -165,13 +169,14 @@ module _ {T P E O : Type 0} (key_of : E → Key) (tells : P → List E → E →
           answers = now.answers;
           remains = record { rest_is = served.remains.rest_is; passes = have_seen sees served.remains.passes };
           below = now.below;
+          noted = subst (λ (n : ℕ). IsNotedWhole n log.entries read written) (sym back.same_conn) served.noted;
         }
 
-    abbrev still_ended : (heard written : List ℕ) → HasEnded key_of tells call_of starts place c sees heard written → HasEnded key_of tells call_of starts place after sees heard written
+    abbrev still_ended : (heard written : List ℕ) → HasEnded key_of tells call_of log place c sees heard written → HasEnded key_of tells call_of log place after sees heard written
     still_ended heard written ended = record { pass = kept; rest = ended.rest; answers = at_session heard written c.out ended.rest ended.answers; passes = have_seen sees ended.passes }
 
-    still_over : (end : ConnectionEnd) (read written : List ℕ) (first last : Streams) → IsOver key_of tells call_of place end starts c sees read written first last
-        → IsOver key_of tells call_of place end starts after sees read written first last
+    still_over : (end : ConnectionEnd) (read written : List ℕ) (first last : Streams) → IsOver key_of tells call_of place end log c sees read written first last
+        → IsOver key_of tells call_of place end log after sees read written first last
     still_over Ended read written first last over = (record { ended = still_ended read written over.0.ended; none_left = over.0.none_left; all_answered = over.0.all_answered }, over.1)
     still_over (Closed fault) read written first last over = (record { ended = still_ended read written over.0.ended; none_left = over.0.none_left; all_answered = over.0.all_answered }, over.1)
     still_over ReadFault read written first last over = (still_ended read written over.0, over.1)
@@ -180,39 +185,39 @@ module _ {T P E O : Type 0} (key_of : E → Key) (tells : P → List E → E →
       ended = still_ended read written over.ended;
       request = over.request;
       next = over.next;
-      gone = subst (λ (m : ℕ). IsServed key_of tells call_of starts place m over.request (sees over.request.partition) IsGone) (sym back.same_member) over.gone;
+      gone = subst (λ (m : ℕ). IsServed key_of tells call_of log place m over.request (sees over.request.partition) IsGone) (sym back.same_member) over.gone;
     }
     still_over Memory read written first last over = record { heard = over.heard; unheard = over.unheard; cut = over.cut; ended = still_ended over.heard written over.ended }
 
     module _ (idle : c.asked ≡ None) where
-      still_to : (read written : List ℕ) → IsServedTo key_of tells call_of starts place c sees read written → IsServedTo key_of tells call_of starts place after sees read written
-      still_to read written served = subst (λ (a : Option (Asked T P E O)). IsServedWith key_of tells call_of starts place after a c.items.items sees read written) (sym idle)
-          (still_with c.items.items read written (subst (λ (a : Option (Asked T P E O)). IsServedWith key_of tells call_of starts place c a c.items.items sees read written) idle served))
+      still_to : (read written : List ℕ) → IsServedTo key_of tells call_of log place c sees read written → IsServedTo key_of tells call_of log place after sees read written
+      still_to read written served = subst (λ (a : Option (Asked T P E O)). IsServedWith key_of tells call_of log place after a c.items.items sees read written) (sym idle)
+          (still_with c.items.items read written (subst (λ (a : Option (Asked T P E O)). IsServedWith key_of tells call_of log place c a c.items.items sees read written) idle served))
 
       pub still_stands : (turned : Turned) (was : Option (Asked T P E O)) (read written : List ℕ) (moves : Moves) (first last : Streams)
-          → StandsAfter key_of tells call_of place turned starts was c sees read written moves first last
-          → StandsAfter key_of tells call_of place turned starts was after sees read written moves first last
+          → StandsAfter key_of tells call_of place turned log was c sees read written moves first last
+          → StandsAfter key_of tells call_of place turned log was after sees read written moves first last
       still_stands Moved was read written moves first last stands = (still_to read written stands.0, stands.1)
       still_stands NotYet was read written moves first last stands = (still_to read written stands.0, stands.1)
       still_stands (Over end) was read written moves first last stands = (stands.0, still_over end read written first last stands.1)
 
 module _ {T P E O : Type 0} (key_of : E → Key) (tells : P → List E → E → LiveOutcome → Type 0) (call_of : ℕ → Request → ℕ → E) (place : Workplace T P E O) where
   -- where no call is under way after a turn, all passes are there
-  module _ (c : Connection T P E O) (idle : c.asked ≡ None) (starts : List Start) (sees : ℕ → List E) (read written : List ℕ) where
+  module _ (c : Connection T P E O) (idle : c.asked ≡ None) (log : Log) (sees : ℕ → List E) (read written : List ℕ) where
     pub record Rests : Type 0 where
       pub session : IsSessionOf place c.pass
       pub passes : HaveSeen c.pass (λ p. ⊥) sees
 
-    rests_to : IsServedTo key_of tells call_of starts place c sees read written → Rests
+    rests_to : IsServedTo key_of tells call_of log place c sees read written → Rests
     rests_to served =
-        let none : IsServedWith key_of tells call_of starts place c None c.items.items sees read written =
-        subst (λ (a : Option (Asked T P E O)). IsServedWith key_of tells call_of starts place c a c.items.items sees read written) idle served in
+        let none : IsServedWith key_of tells call_of log place c None c.items.items sees read written =
+        subst (λ (a : Option (Asked T P E O)). IsServedWith key_of tells call_of log place c a c.items.items sees read written) idle served in
         record { session = none.pass; passes = none.remains.passes }
 
-    rests_ended : (heard : List ℕ) → HasEnded key_of tells call_of starts place c sees heard written → Rests
+    rests_ended : (heard : List ℕ) → HasEnded key_of tells call_of log place c sees heard written → Rests
     rests_ended heard ended = record { session = ended.pass; passes = ended.passes }
 
-    rests_over : (end : ConnectionEnd) (first last : Streams) → IsOver key_of tells call_of place end starts c sees read written first last → Rests
+    rests_over : (end : ConnectionEnd) (first last : Streams) → IsOver key_of tells call_of place end log c sees read written first last → Rests
     rests_over Ended first last over = rests_ended read over.0.ended
     rests_over (Closed fault) first last over = rests_ended read over.0.ended
     rests_over ReadFault first last over = rests_ended read over.0
@@ -220,26 +225,26 @@ module _ {T P E O : Type 0} (key_of : E → Key) (tells : P → List E → E →
     rests_over MemberGone first last over = rests_ended read over.ended
     rests_over Memory first last over = rests_ended over.heard over.ended
 
-    pub rests : (turned : Turned) (was : Option (Asked T P E O)) (moves : Moves) (first last : Streams) → StandsAfter key_of tells call_of place turned starts was c sees read written moves first last → Rests
+    pub rests : (turned : Turned) (was : Option (Asked T P E O)) (moves : Moves) (first last : Streams) → StandsAfter key_of tells call_of place turned log was c sees read written moves first last → Rests
     rests Moved was moves first last stands = rests_to stands.0
     rests NotYet was moves first last stands = rests_to stands.0
     rests (Over end) was moves first last stands = rests_over end first last stands.1
 
   -- the partition of a call that is under way is one of the place
-  pub under_way_within : (c : Connection T P E O) (asked : Asked T P E O) (starts : List Start) (sees : ℕ → List E) (read written : List ℕ) → c.asked ≡ Some asked
-      → IsServedTo key_of tells call_of starts place c sees read written → asked.started.partition < length place.cells.items
-  under_way_within c asked starts sees read written is served =
-      let some : IsServedWith key_of tells call_of starts place c (Some asked) c.items.items sees read written =
-      subst (λ (a : Option (Asked T P E O)). IsServedWith key_of tells call_of starts place c a c.items.items sees read written) is served in
+  pub under_way_within : (c : Connection T P E O) (asked : Asked T P E O) (log : Log) (sees : ℕ → List E) (read written : List ℕ) → c.asked ≡ Some asked
+      → IsServedTo key_of tells call_of log place c sees read written → asked.started.partition < length place.cells.items
+  under_way_within c asked log sees read written is served =
+      let some : IsServedWith key_of tells call_of log place c (Some asked) c.items.items sees read written =
+      subst (λ (a : Option (Asked T P E O)). IsServedWith key_of tells call_of log place c a c.items.items sees read written) is served in
       let its = some.remains.is_asked in
       subst (λ (n : ℕ). n < length place.cells.items) (sym its.partition)
       (subst (λ (n : ℕ). some.remains.request.partition < n) some.pass.each (slice_get_within c.pass.passes.items some.remains.request.partition None its.away))
 
   -- a turn is one since less was seen, which had all calls of the connection's own
-  module _ (given given_now : List ℕ) (was : Option (Asked T P E O)) (is : Connection T P E O) (before after : Streams) (less seen : ℕ → List E) (starts : List Start) (read written : List ℕ) (turned : Turned)
+  module _ (given given_now : List ℕ) (journal journal_now : List Entry) (was : Option (Asked T P E O)) (is : Connection T P E O) (before after : Streams) (less seen : ℕ → List E) (log : Log) (read written : List ℕ) (turned : Turned)
       (first : (partition : ℕ) → Begins (less partition) (seen partition))
       (own : (id : CallId) (partition at : ℕ) → id.conn ≡ is.pass.conn → StandsAt key_of id (seen partition) at → StandsAt key_of id (less partition) at)
-      (turn : HasTurned key_of tells call_of place given given_now was is before after seen starts read written turned) where
+      (turn : HasTurned key_of tells call_of place given given_now journal journal_now was is before after seen log read written turned) where
     less_or_more : (n m : ℕ) → (n < m) ⊎ (m ≤ n)
     less_or_more n m = grind arith
 
@@ -252,13 +257,16 @@ module _ {T P E O : Type 0} (key_of : E → Key) (tells : P → List E → E →
         (less_or_more at (length (seen partition)))
 
     unfoldable pub since_less : (pass_now : SessionPass T P E O) → pass_now.conn ≡ is.pass.conn
-        → StandsAfter key_of tells call_of place turned (with_start turn.started starts) was (record is { pass = pass_now }) turn.sees (read ++ turn.moves.read) (written ++ turn.moves.written) turn.moves before after
-        → HasTurned key_of tells call_of place given given_now was (record is { pass = pass_now }) before after less starts read written turned
+        → StandsAfter key_of tells call_of place turned (after_turn log turn.started turn.entries) was (record is { pass = pass_now }) turn.sees (read ++ turn.moves.read) (written ++ turn.moves.written) turn.moves before after
+        → HasTurned key_of tells call_of place given given_now journal journal_now was (record is { pass = pass_now }) before after less log read written turned
     since_less pass_now same_conn stands = record {
       moves = turn.moves;
       moved = turn.moved;
       started = turn.started;
       asks = turn.asks;
+      entries = turn.entries;
+      more_entries = turn.more_entries;
+      noted = subst (λ (n : ℕ). HasNoted n (noted_of was) (noted_of is.asked) turn.moves turn.entries) (sym same_conn) turn.noted;
       sees = turn.sees;
       more = λ partition. let one = first partition in let two = turn.more partition in
           (one.0 ++ two.0, two.1 ∙ ap (λ (l : List E). l ++ two.0) one.1 ∙ append_assoc (less partition) one.0 two.0);

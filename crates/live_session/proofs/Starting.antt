@@ -1,6 +1,7 @@
 -- How a call is started.
 use Rattle.std.proofs.Common.{◌≡◌, ℕ, suc, ℤ, ◌<◌, inl, inr, true, List, [], ◌∷◌, ◌++◌, length, Contains, Option, Some, None, slice_get, refl, sym, ap, ◌∙◌, subst, append-nil, arith}
 use Rattle.std.specs.Prelude.{option_and_then}
+use Rattle.std.proofs.lemmas.Option.{slice_get_within}
 use Rattle.grid_base.specs.Limits.{CallFits, NumbersFit}
 use Rattle.grid_base.specs.declared.names.CallId.{CallId}
 use Rattle.grid_base.specs.declared.calls.Request.{Request}
@@ -10,6 +11,9 @@ use Rattle.hand_cell.specs.declared.outcome.LiveOutcome.{LiveOutcome}
 use Rattle.hand_cell.specs.Names.{has_number, Lacks}
 use Rattle.hand_cell.specs.Told.{Told}
 use Rattle.grid_base.specs.Errors.{want_of_memory}
+use Rattle.loop_journal.specs.declared.entry.Entry.{Entry}
+use Rattle.loop_journal.specs.declared.entry.Entry.TheVariants.{Started as StartNoted}
+use Rattle.loop_journal.specs.declared.entry.NotedCall.{NotedCall}
 use Rattle.message_frames.specs.Messages.{messages_of}
 use Rattle.partition_threads.specs.declared.workplace.Workplace.{Workplace}
 use Rattle.session_calls.specs.declared.calls.Unstarted.{Unstarted}
@@ -30,25 +34,28 @@ use Rattle.live_session.specs.declared.turned.ConnectionEnd.TheVariants.{Memory}
 use Rattle.live_session.specs.declared.turned.Turned.TheVariants.{Moved, Ended as Over}
 use Rattle.live_session.specs.Replies.{busy, unstarted_bytes}
 use Rattle.live_session.specs.Connections.{HasSeen, HaveSeen, HasAnswered, IsNotRun, IsServedWith, IsServedTo, ServesCalls}
+use Rattle.live_session.specs.Next.{noted_call, noted_of}
 use Rattle.live_session.specs.Turns.{Streams, StandsAfter, HasTurned}
 use Rattle.live_session.proofs.Places.{get_seam, set_there, same_some}
 use Rattle.live_session.proofs.Numbers.{below_lacks, stands_within}
 use Rattle.live_session.proofs.Answering.{next_number, grows_not, Kept, kept_by, kept_more, kept_since}
 use Rattle.live_session.proofs.Passes.{others_stay}
+use Rattle.live_session.proofs.Timing.{in_time_noted, one_start, has_come, noted_still, noted_started}
 use Rattle.live_session.proofs.Turning.{unmoved, none_moved}
-use Rattle.live_session.specs.Starts.{Start, start_of}
+use Rattle.live_session.specs.Starts.{Start, Log, start_of, after_turn}
+use Rattle.live_session.specs.Times.{HasCome, IsNotedWhole, IsInTime}
 
-module _ {T P E O : Type 0} (key_of : E → Key) (tells : P → List E → E → LiveOutcome → Type 0) (call_of : ℕ → Request → ℕ → E) (starts : List Start) (place : Workplace T P E O)
-    (c : Connection T P E O) (request : Request) (seen : ℕ → List E) (read written : List ℕ) (served : IsServedWith key_of tells call_of starts place c None (Call request ∷ c.items.items) seen read written) where
-  had : Kept key_of tells call_of place starts c.pass.conn c.pass.member seen read written c.out (Call request ∷ c.items.items)
-  had = subst (λ (r : List Item). Kept key_of tells call_of place starts c.pass.conn c.pass.member seen read written c.out r) served.remains.rest_is (record { answers = served.answers; below = served.below })
+module _ {T P E O : Type 0} (key_of : E → Key) (tells : P → List E → E → LiveOutcome → Type 0) (call_of : ℕ → Request → ℕ → E) (log : Log) (place : Workplace T P E O)
+    (c : Connection T P E O) (request : Request) (seen : ℕ → List E) (read written : List ℕ) (served : IsServedWith key_of tells call_of log place c None (Call request ∷ c.items.items) seen read written) where
+  had : Kept key_of tells call_of place log c.pass.conn c.pass.member seen read written c.out (Call request ∷ c.items.items)
+  had = subst (λ (r : List Item). Kept key_of tells call_of place log c.pass.conn c.pass.member seen read written c.out r) served.remains.rest_is (record { answers = served.answers; below = served.below })
 
   number : ℕ
   number = length had.answers.answered
 
   id_is : request.id ≡ record { conn = c.pass.conn; number = number }
   unfolding number
-  id_is = next_number key_of tells call_of starts starts place c.pass.conn c.pass.member seen seen read written c.out (Call request) c.items.items had.answers request refl
+  id_is = next_number key_of tells call_of log log place c.pass.conn c.pass.member seen seen read written c.out (Call request) c.items.items had.answers request refl
 
   here : slice_get (items_of c.pass.conn c.pass.member (messages_of true read)) number ≡ Some (Call request)
   unfolding number
@@ -87,14 +94,43 @@ module _ {T P E O : Type 0} (key_of : E → Key) (tells : P → List E → E →
       first_is : start.terms.first ≡ at_place.pass
       first_is = same_some start.terms.first at_place.pass (same_some (Some start.terms.first) (Some at_place.pass) (sym start.pass ∙ at_place.there))
 
-      older : (one : Start) → Contains starts one → Contains (start_of request now ∷ starts) one
-      older one there = let less : there.0 < length starts = there.1 in (suc there.0, omega (arith, less), there.2)
+      abbrev call : NotedCall
+      call = noted_call asked
 
-      kept_now : Kept key_of tells call_of place (start_of request now ∷ starts) pass_now.conn pass_now.member seen read written c.out (Call request ∷ c.items.items)
-      kept_now = kept_by key_of tells call_of place (start_of request now ∷ starts) c.pass.conn pass_now.conn c.pass.member pass_now.member seen read written c.out (Call request ∷ c.items.items) start.away.same_conn start.away.same_member
-          (kept_since key_of tells call_of place starts (start_of request now ∷ starts) older c.pass.conn c.pass.member seen read written c.out (Call request ∷ c.items.items) had)
+      abbrev pub entries : List Entry
+      entries = StartNoted call ∷ []
 
-      under_way : IsServedWith key_of tells call_of (start_of request now ∷ starts) place (record c { pass = pass_now; asked = Some asked }) (Some asked) c.items.items seen read written
+      abbrev log_then : Log
+      log_then = after_turn log (Some (start_of request now)) entries
+
+      numbered : started.id ≡ record { conn = c.pass.conn; number = number }
+      numbered = start.id ∙ id_is
+
+      -- its message has come
+      in_time : IsInTime c.pass.conn c.pass.member log_then.entries read had.answers.replies
+      unfolding number
+      in_time = in_time_noted c.pass.conn c.pass.member log.entries read had.answers.replies entries
+          (one_start c.pass.conn c.pass.member log.entries read had.answers.replies call
+          (has_come c.pass.conn c.pass.member call.id.number log.entries read written served.noted
+          (subst (λ (n : ℕ). HasCome c.pass.conn c.pass.member read n) (sym (ap (λ (i : CallId). i.number) numbered))
+          (slice_get_within (items_of c.pass.conn c.pass.member (messages_of true read)) number (Call request) here))))
+          had.answers.in_time
+
+      own_call : call.id.conn ≡ pass_now.conn
+      own_call = ap (λ (i : CallId). i.conn) numbered ∙ sym start.away.same_conn
+
+      whole_then : IsNotedWhole pass_now.conn log_then.entries read written
+      whole_then = noted_still pass_now.conn log.entries entries read written (subst (λ (n : ℕ). IsNotedWhole n log.entries read written) (sym start.away.same_conn) served.noted)
+          (noted_started pass_now.conn call own_call).whole
+
+      older : (one : Start) → Contains log.starts one → Contains log_then.starts one
+      older one there = let less : there.0 < length log.starts = there.1 in (suc there.0, omega (arith, less), there.2)
+
+      kept_now : Kept key_of tells call_of place log_then pass_now.conn pass_now.member seen read written c.out (Call request ∷ c.items.items)
+      kept_now = kept_by key_of tells call_of place log_then c.pass.conn pass_now.conn c.pass.member pass_now.member seen read written c.out (Call request ∷ c.items.items) start.away.same_conn start.away.same_member
+          (kept_since key_of tells call_of place log log_then older c.pass.conn c.pass.member seen read written c.out (Call request ∷ c.items.items) had in_time)
+
+      under_way : IsServedWith key_of tells call_of log_then place (record c { pass = pass_now; asked = Some asked }) (Some asked) c.items.items seen read written
       under_way = record {
         pass = kept;
         session = served.session ∙ (ap (λ (n : ℕ). session_after n c.pass.member read) (sym start.away.same_conn) ∙ ap (λ (n : ℕ). session_after pass_now.conn n read) (sym start.away.same_member));
@@ -120,19 +156,24 @@ module _ {T P E O : Type 0} (key_of : E → Key) (tells : P → List E → E →
           };
         };
         below = kept_now.below;
+        noted = whole_then;
       }
 
-      pub has_started : (given : List ℕ) → HasTurned key_of tells call_of place given (given ++ now ∷ []) None (record c { pass = pass_now; asked = Some asked }) streams streams seen starts read written Moved
-      has_started given = record {
+      pub has_started : (given : List ℕ) (journal journal_now : List Entry) → journal_now ≡ journal ++ entries
+          → HasTurned key_of tells call_of place given (given ++ now ∷ []) journal journal_now None (record c { pass = pass_now; asked = Some asked }) streams streams seen log read written Moved
+      has_started given journal journal_now more_entries = record {
         moves = unmoved;
         moved = record { read = sym (append-nil streams.from.given.bytes); written = sym (append-nil streams.to.bytes) };
         started = Some (start_of request now);
         asks = (ap (λ (i : CallId). i.number) start.id, refl);
+        entries = entries;
+        more_entries = more_entries;
+        noted = noted_started pass_now.conn call own_call;
         sees = seen;
         more = λ partition. ([], sym (append-nil (seen partition)));
         anew = λ id partition at mine is past. absurd (past (stands_within key_of id (seen partition) at is));
-        stands = subst (λ (r : List ℕ). StandsAfter key_of tells call_of place Moved (start_of request now ∷ starts) None (record c { pass = pass_now; asked = Some asked }) seen r (written ++ []) unmoved streams streams) (sym (append-nil read))
-            (subst (λ (w : List ℕ). StandsAfter key_of tells call_of place Moved (start_of request now ∷ starts) None (record c { pass = pass_now; asked = Some asked }) seen read w unmoved streams streams) (sym (append-nil written))
+        stands = subst (λ (r : List ℕ). StandsAfter key_of tells call_of place Moved log_then None (record c { pass = pass_now; asked = Some asked }) seen r (written ++ []) unmoved streams streams) (sym (append-nil read))
+            (subst (λ (w : List ℕ). StandsAfter key_of tells call_of place Moved log_then None (record c { pass = pass_now; asked = Some asked }) seen read w unmoved streams streams) (sym (append-nil written))
             (under_way, inr (inr tt)));
       }
 
@@ -146,36 +187,37 @@ module _ {T P E O : Type 0} (key_of : E → Key) (tells : P → List E → E →
         named = ap (has_number was.pass.names.numbers) refused.same_conn ∙ was.named;
       }
 
-      answers_call : (told : List ℕ) → told ≡ unstarted_bytes request.correlation why → IsNotRun key_of tells call_of starts place request (seen request.partition) told
+      answers_call : (told : List ℕ) → told ≡ unstarted_bytes request.correlation why → IsNotRun key_of tells call_of log place request (seen request.partition) told
       answers_call told is = go why is
         where
-          go : (w : Unstarted) → told ≡ unstarted_bytes request.correlation w → IsNotRun key_of tells call_of starts place request (seen request.partition) told
+          go : (w : Unstarted) → told ≡ unstarted_bytes request.correlation w → IsNotRun key_of tells call_of log place request (seen request.partition) told
           go Busy e = record { nowhere = is_new; code = busy; why = inl refl; reply_is = e }
           go NoMemory e = record { nowhere = is_new; code = want_of_memory; why = inr (inl refl); reply_is = e }
 
-      kept_refused : (told out_now : List ℕ) → told ≡ unstarted_bytes request.correlation why → out_now ≡ c.out ++ told → Kept key_of tells call_of place starts pass_now.conn pass_now.member seen read written out_now c.items.items
-      kept_refused told out_now is behind = kept_by key_of tells call_of place starts c.pass.conn pass_now.conn c.pass.member pass_now.member seen read written out_now c.items.items refused.same_conn refused.same_member
-          (kept_more key_of tells call_of place starts c.pass.conn c.pass.member seen seen read written c.out (Call request) c.items.items had
-          (grows_not key_of tells call_of starts starts place c.pass.conn (length had.answers.answered) c.pass.member (items_of c.pass.conn c.pass.member (messages_of true read)) seen) told out_now behind (inr (answers_call told is)))
+      kept_refused : (told out_now : List ℕ) → told ≡ unstarted_bytes request.correlation why → out_now ≡ c.out ++ told → Kept key_of tells call_of place log pass_now.conn pass_now.member seen read written out_now c.items.items
+      kept_refused told out_now is behind = kept_by key_of tells call_of place log c.pass.conn pass_now.conn c.pass.member pass_now.member seen read written out_now c.items.items refused.same_conn refused.same_member
+          (kept_more key_of tells call_of place log c.pass.conn c.pass.member seen seen read written c.out (Call request) c.items.items had
+          (grows_not key_of tells call_of log log place c.pass.conn (length had.answers.answered) c.pass.member (items_of c.pass.conn c.pass.member (messages_of true read)) seen) told out_now behind (inr (answers_call told is)))
 
       session : c.session ≡ session_after pass_now.conn pass_now.member read
       session = served.session ∙ (ap (λ (n : ℕ). session_after n c.pass.member read) (sym refused.same_conn) ∙ ap (λ (n : ℕ). session_after pass_now.conn n read) (sym refused.same_member))
 
-      pub is_refused : (told out_now : List ℕ) → told ≡ unstarted_bytes request.correlation why → out_now ≡ c.out ++ told → IsServedTo key_of tells call_of starts place (record c { pass = pass_now; out = out_now }) seen read written
+      pub is_refused : (told out_now : List ℕ) → told ≡ unstarted_bytes request.correlation why → out_now ≡ c.out ++ told → IsServedTo key_of tells call_of log place (record c { pass = pass_now; out = out_now }) seen read written
       is_refused told out_now is behind = let now = kept_refused told out_now is behind in
-          subst (λ (a : Option (Asked T P E O)). IsServedWith key_of tells call_of starts place (record c { pass = pass_now; out = out_now }) a c.items.items seen read written) (sym idle) (record {
+          subst (λ (a : Option (Asked T P E O)). IsServedWith key_of tells call_of log place (record c { pass = pass_now; out = out_now }) a c.items.items seen read written) (sym idle) (record {
             pass = kept;
             session = session;
             rest = c.items.items;
             answers = now.answers;
             remains = record { rest_is = refl; passes = passes };
             below = now.below;
+            noted = subst (λ (n : ℕ). IsNotedWhole n log.entries read written) (sym refused.same_conn) served.noted;
           })
 
-      pub refused_no_memory : {given : List ℕ} (out_now : List ℕ) → out_now ≡ c.out → (streams : Streams)
-          → HasTurned key_of tells call_of place given given None (record c { pass = pass_now; out = out_now }) streams streams seen starts read written (Over Memory)
+      pub refused_no_memory : {given : List ℕ} {journal : List Entry} (out_now : List ℕ) → out_now ≡ c.out → (streams : Streams)
+          → HasTurned key_of tells call_of place given given journal journal None (record c { pass = pass_now; out = out_now }) streams streams seen log read written (Over Memory)
       refused_no_memory out_now same streams =
-          none_moved key_of tells call_of place None (record c { pass = pass_now; out = out_now }) seen starts read written (Over Memory) streams seen (λ partition. ([], sym (append-nil (seen partition)))) (λ id partition at mine is past. absurd (past (stands_within key_of id (seen partition) at is))) (
+          none_moved key_of tells call_of place None (record c { pass = pass_now; out = out_now }) seen log read written (Over Memory) streams (ap (λ (a : Option (Asked T P E O)). noted_of a) idle) (
             idle,
             record {
               heard = read;
@@ -184,8 +226,8 @@ module _ {T P E O : Type 0} (key_of : E → Key) (tells : P → List E → E →
               ended = record {
                 pass = kept;
                 rest = Call request ∷ c.items.items;
-                answers = subst (λ (l : List ℕ). HasAnswered key_of tells call_of starts place pass_now.conn pass_now.member seen read written l (Call request ∷ c.items.items)) (sym same)
-                    (kept_by key_of tells call_of place starts c.pass.conn pass_now.conn c.pass.member pass_now.member seen read written c.out (Call request ∷ c.items.items) refused.same_conn refused.same_member had).answers;
+                answers = subst (λ (l : List ℕ). HasAnswered key_of tells call_of log place pass_now.conn pass_now.member seen read written l (Call request ∷ c.items.items)) (sym same)
+                    (kept_by key_of tells call_of place log c.pass.conn pass_now.conn c.pass.member pass_now.member seen read written c.out (Call request ∷ c.items.items) refused.same_conn refused.same_member had).answers;
                 passes = passes;
               };
             },

@@ -1,30 +1,22 @@
 -- A turn of a connection among those of one loop.
-use Rattle.std.specs.Prelude.{◌≡◌, ℕ, List, [], ◌∷◌, ◌++◌, Option, Some, None, slice_get, slice_set}
+use Rattle.std.specs.Prelude.{◌≡◌, ℕ, List, Option, Some, None, slice_get, slice_set}
 use Rattle.grid_base.specs.declared.names.CallId.{CallId}
 use Rattle.grid_base.specs.declared.calls.Request.{Request}
 use Rattle.hand_cell.specs.declared.names.Key.{Key}
 use Rattle.hand_cell.specs.declared.outcome.LiveOutcome.{LiveOutcome}
 use Rattle.hand_cell.specs.Told.{Told, having_seen, SeesMore}
+use Rattle.loop_journal.specs.declared.entry.Entry.{Entry}
+use Rattle.loop_journal.specs.declared.entry.NotedCall.{NotedCall}
 use Rattle.partition_threads.specs.declared.workplace.Workplace.{Workplace}
 use Rattle.session_calls.specs.Learning.{Begins, HasTaughtAt}
 use Rattle.session_calls.specs.Sessions.{IsSessionOf, pass_at}
 use Rattle.live_session.specs.declared.connection.Asked.{Asked}
 use Rattle.live_session.specs.declared.connection.Connection.{Connection}
-use Rattle.live_session.specs.declared.note.CallNote.{CallNote}
-use Rattle.live_session.specs.declared.note.CallNote.TheVariants.{Started, Finished}
-use Rattle.live_session.specs.declared.note.NotedCall.{NotedCall}
 use Rattle.live_session.specs.declared.turned.Turned.{Turned}
 use Rattle.live_session.specs.Connections.{StandsAt, IsServedTo}
-use Rattle.live_session.specs.Next.{IsNext, noted_call}
+use Rattle.live_session.specs.Next.{IsNext, noted_of}
 use Rattle.live_session.specs.Turns.{Streams, HasTurned}
-use Rattle.live_session.specs.Starts.{Start}
-
--- what is noted by the calls that were under way before and after a turn: one that was started, or one that was finished
-abbrev pub HasNotedOf : (was is : Option NotedCall) → (notes now : List CallNote) → Type 0
-HasNotedOf None None notes now = now ≡ notes
-HasNotedOf None (Some call) notes now = now ≡ notes ++ Started call ∷ []
-HasNotedOf (Some call) None notes now = now ≡ notes ++ Finished call ∷ []
-HasNotedOf (Some call) (Some still) notes now = now ≡ notes
+use Rattle.live_session.specs.Starts.{Log}
 
 -- The pass of the partition among these has seen more than it had, and all of this; the others are as before
 pub record KnowsMore {E : Type 0} (key_of : E → Key) (partition : ℕ) (seen : List E) (known now : List (Told E)) : Type 0 where
@@ -48,10 +40,6 @@ KeepsKnown key_of (Some call) None sees known now = KnowsMore key_of call.partit
 KeepsKnown key_of (Some call) (Some still) sees known now = (now ≡ known) × (still ≡ call)
 
 module _ {T P E O : Type 0} where
-  abbrev pub noted_of : Option (Asked T P E O) → Option NotedCall
-  noted_of None = None
-  noted_of (Some asked) = Some (noted_call asked)
-
   -- a call that was under way is so no more: the session has the pass of its partition
   abbrev pub MaySettleAt : Workplace T P E O → Connection T P E O → NotedCall → Option (Asked T P E O) → Type 0
   MaySettleAt place connection call None = IsSessionOf place connection.pass × ((pass : Told E) × (pass_at connection.pass call.partition ≡ Some (Some pass)))
@@ -73,16 +61,15 @@ module _ {T P E O : Type 0} where
 module _ {T P E O : Type 0} (key_of : E → Key) (tells : P → List E → E → LiveOutcome → Type 0) (call_of : ℕ → Request → ℕ → E) (place : Workplace T P E O) where
   -- The connection is served as before by more that it has seen, none of which is a call of its own; a call that comes next stands behind what these
   -- passes have seen
-  pub record IsPrepared (old new : Connection T P E O) (seen : ℕ → List E) (starts : List Start) (read written : List ℕ) (known : List (Told E)) : Type 0 where
+  pub record IsPrepared (old new : Connection T P E O) (seen : ℕ → List E) (log : Log) (read written : List ℕ) (known : List (Told E)) : Type 0 where
     pub sees : ℕ → List E
     pub more : (partition : ℕ) → Begins (seen partition) (sees partition)
     pub own : (id : CallId) (partition at : ℕ) → id.conn ≡ old.pass.conn → StandsAt key_of id (sees partition) at → StandsAt key_of id (seen partition) at
-    pub served : IsServedTo key_of tells call_of starts place new sees read written
+    pub served : IsServedTo key_of tells call_of log place new sees read written
     pub behind : old.asked ≡ None → (partition : ℕ) → IsNext old partition → StandsBehind known partition (sees partition)
 
-  -- A turn among connections of one loop: what it came to, what it did to the loop's passes, and what it noted
-  pub record HasTurnedAmong (given given_now : List ℕ) (was : Option (Asked T P E O)) (new : Connection T P E O) (before after : Streams) (seen : ℕ → List E)
-      (starts : List Start) (read written : List ℕ) (turned : Turned) (known known_now : List (Told E)) (notes notes_now : List CallNote) : Type 0 where
-    pub turn : HasTurned key_of tells call_of place given given_now was new before after seen starts read written turned
+  -- A turn among connections of one loop: what it came to, and what it did to the loop's passes
+  pub record HasTurnedAmong (given given_now : List ℕ) (journal journal_now : List Entry) (was : Option (Asked T P E O)) (new : Connection T P E O) (before after : Streams) (seen : ℕ → List E)
+      (log : Log) (read written : List ℕ) (turned : Turned) (known known_now : List (Told E)) : Type 0 where
+    pub turn : HasTurned key_of tells call_of place given given_now journal journal_now was new before after seen log read written turned
     pub keeps : KeepsKnown key_of (noted_of was) (noted_of new.asked) turn.sees known known_now
-    pub noted : HasNotedOf (noted_of was) (noted_of new.asked) notes notes_now

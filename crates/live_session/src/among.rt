@@ -1,19 +1,19 @@
 //! A turn of a connection among those of one loop.
 ghost use Rattle.std.specs.Prelude.{◌≡◌, ◌≤◌, ℕ, List};
 ghost use Rattle.hand_cell.specs.declared.names.Key.{Key};
-ghost use Rattle.live_session.specs.Among.{IsPrepared, MaySettle, HasSettled, HasNotedOf, HasTurnedAmong, noted_of};
-ghost use Rattle.live_session.specs.Connections.{IsServedTo, ServesCalls};
+ghost use Rattle.live_session.specs.Among.{IsPrepared, MaySettle, HasSettled, HasTurnedAmong};
+ghost use Rattle.live_session.specs.Connections.{IsAlive, IsServedTo, ServesCalls};
+ghost use Rattle.live_session.specs.Next.{noted_of};
 ghost use Rattle.live_session.specs.Turns.{incoming, stream};
-ghost use Rattle.live_session.specs.Starts.{Start};
+ghost use Rattle.live_session.specs.Starts.{Log};
 ghost use Rattle.session_calls.specs.Passes.{ArePassesOf};
 ghost use Rattle.session_calls.specs.Sessions.{IsSessionOf};
 
 use crate::connection::Connection;
-use crate::note::{CallNote, NotedCall};
-use crate::notes::CallNotes;
 use crate::turned::Turned;
 use grid_edge::{Clock, ReadySink, ReadySource};
 use hand_cell::{Pass, Served};
+use loop_journal::{Journal, NotedCall};
 use partition_threads::Workplace;
 use session_core::Item;
 use std::alloc::Global;
@@ -22,7 +22,7 @@ use std::sync::Wait;
 impl<T: Served> Connection<T> {
     /// Goes on by one step, as `turn` does, among the connections of one loop. These learn of each other's calls by way of
     /// the loop's passes: a call that is started stands behind all that those have seen, and they see all that a session
-    /// has seen once its call has an outcome. What became of a call is noted then.
+    /// has seen once its call has an outcome.
     ///
     /// Costs what `turn` does; and a start, and the look that finds an outcome, cost what `Cell::learn` does.
     pub fn turn_among<F: ReadySource, K: ReadySink, C: Clock, R: Wait>(
@@ -33,18 +33,24 @@ impl<T: Served> Connection<T> {
         from: &mut F,
         to: &mut K,
         clock: &mut C,
+        journal: &mut Journal,
         known: &mut Vec<Pass<T>>,
-        notes: &mut CallNotes,
     ) -> Turned
         requires calls { ServesCalls T.fits place.now }
-        requires served { (seen : ℕ → List T.Event) × (starts : List Start) × (read written : List ℕ) × IsServedTo T.key_of T.tells T.call_of starts place.now self.old seen read written }
+        requires served { IsAlive T.key_of T.tells T.call_of place.now self.old }
         requires known { ArePassesOf place.now.cells.items known.old.items }
-        ensures turned { (seen : ℕ → List T.Event) (starts : List Start) (read written : List ℕ)
-            → IsServedTo T.key_of T.tells T.call_of starts place.now self.old seen read written
-            → HasTurnedAmong T.key_of T.tells T.call_of place.now (C.given clock.old) (C.given clock.new) self.old.asked self.new
-            (record { from = incoming (F.given from.old) (F.faults from.old) (F.unready from.old); to = stream (K.taken to.old) (K.faults to.old) (K.unready to.old) })
-            (record { from = incoming (F.given from.new) (F.faults from.new) (F.unready from.new); to = stream (K.taken to.new) (K.faults to.new) (K.unready to.new) })
-            seen starts read written result known.old.items known.new.items notes.old notes.new }
+        ensures turned { (seen : ℕ → List T.Event) (log : Log) (read written : List ℕ)
+            → IsServedTo T.key_of T.tells T.call_of log place.now self.old seen read written
+            → HasTurnedAmong T.key_of T.tells T.call_of place.now (C.given clock.old) (C.given clock.new) journal.old journal.new self.old.asked self.new
+            (record {
+              from = incoming (F.given from.old) (F.faults from.old) (F.unready from.old);
+              to = stream (K.taken to.old) (K.faults to.old) (K.unready to.old);
+            })
+            (record {
+              from = incoming (F.given from.new) (F.faults from.new) (F.unready from.new);
+              to = stream (K.taken to.new) (K.faults to.new) (K.unready to.new);
+            })
+            seen log read written result known.old.items known.new.items }
         ensures same_conn { self.new.pass.conn ≡ self.old.pass.conn }
         ensures same_member { self.new.pass.member ≡ self.old.pass.member }
         ensures read_faults { F.faults from.old ≤ F.faults from.new }
@@ -53,8 +59,8 @@ impl<T: Served> Connection<T> {
     {
         self.prepare(place, known);
         let before = self.under_way();
-        let turned = self.turn(rt, alloc, place, from, to, clock);
-        self.settle(place, known, notes, before);
+        let turned = self.turn(rt, alloc, place, from, to, clock, journal);
+        self.settle(place, known, before);
         turned
     }
 
@@ -63,10 +69,7 @@ impl<T: Served> Connection<T> {
         ensures { result ≡ noted_of self.now.asked }
     {
         match &self.asked {
-            Some(asked) => Some(NotedCall {
-                id: asked.started.id,
-                partition: asked.started.partition,
-            }),
+            Some(asked) => Some(asked.noted()),
             None => None,
         }
     }
@@ -74,11 +77,11 @@ impl<T: Served> Connection<T> {
     /// Lets the session see what these passes have seen of the partition of the call that is started next, if one is.
     fn prepare(&mut self, place: &Workplace<T>, known: &mut Vec<Pass<T>>)
         requires calls { ServesCalls T.fits place.now }
-        requires served { (seen : ℕ → List T.Event) × (starts : List Start) × (read written : List ℕ) × IsServedTo T.key_of T.tells T.call_of starts place.now self.old seen read written }
+        requires served { IsAlive T.key_of T.tells T.call_of place.now self.old }
         requires known { ArePassesOf place.now.cells.items known.old.items }
-        ensures prepared { (seen : ℕ → List T.Event) (starts : List Start) (read written : List ℕ)
-            → IsServedTo T.key_of T.tells T.call_of starts place.now self.old seen read written
-            → IsPrepared T.key_of T.tells T.call_of place.now self.old self.new seen starts read written known.old.items }
+        ensures prepared { (seen : ℕ → List T.Event) (log : Log) (read written : List ℕ)
+            → IsServedTo T.key_of T.tells T.call_of log place.now self.old seen read written
+            → IsPrepared T.key_of T.tells T.call_of place.now self.old self.new seen log read written known.old.items }
         ensures same { self.new ≡ record self.old { pass = self.new.pass } }
         ensures same_conn { self.new.pass.conn ≡ self.old.pass.conn }
         ensures same_member { self.new.pass.member ≡ self.old.pass.member }
@@ -100,30 +103,18 @@ impl<T: Served> Connection<T> {
     }
 
     /// Lets these passes see what the session has seen of the partition of a call that was under way before and has its
-    /// outcome, and notes what became of the call. `before` is the call that was under way.
-    fn settle(
-        &mut self,
-        place: &Workplace<T>,
-        known: &mut Vec<Pass<T>>,
-        notes: &mut CallNotes,
-        before: Option<NotedCall>,
-    )
+    /// outcome. `before` is the call that was under way.
+    fn settle(&mut self, place: &Workplace<T>, known: &mut Vec<Pass<T>>, before: Option<NotedCall>)
         requires may { MaySettle place.now before self.old }
         requires known { ArePassesOf place.now.cells.items known.old.items }
         ensures settled { HasSettled T.key_of place.now before self.old self.new known.old.items known.new.items }
-        ensures noted { HasNotedOf before (noted_of self.old.asked) notes.old notes.new }
         ensures same { self.new ≡ record self.old { pass = self.new.pass } }
         ensures same_conn { self.new.pass.conn ≡ self.old.pass.conn }
         ensures same_member { self.new.pass.member ≡ self.old.pass.member }
         ensures kept_known { ArePassesOf place.now.cells.items known.new.items }
     {
-        match (before, self.under_way()) {
-            (None, Some(call)) => notes.note(CallNote::Started(call)),
-            (Some(call), None) => {
-                self.pass.teach(place, known, call.partition);
-                notes.note(CallNote::Finished(call));
-            }
-            _ => {}
+        if let (Some(call), None) = (before, self.under_way()) {
+            self.pass.teach(place, known, call.partition);
         }
     }
 }

@@ -9,6 +9,7 @@ use crate::connection::Connection;
 use crate::turned::{ConnectionEnd, Turned};
 use grid_edge::{Clock, Sink, Source};
 use hand_cell::Served;
+use loop_journal::Journal;
 use partition_threads::Workplace;
 use session_calls::SessionPass;
 use std::alloc::Global;
@@ -38,8 +39,9 @@ pub fn serve_connection<T: Served, S: Source, K: Sink, C: Clock, R: Wait>(
         result.0 result.1 }
 {
     let mut connection = Connection::new(alloc, pass);
+    let mut journal = Journal::new();
     for _ in rt.forever() {
-        match connection.turn(rt, alloc, place, from, to, clock) {
+        match connection.turn(rt, alloc, place, from, to, clock, &mut journal) {
             Turned::Moved => {}
             Turned::NotYet => thread::yield_now(),
             Turned::Ended(end) => return (end, connection.into_pass()),

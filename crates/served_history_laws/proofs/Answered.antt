@@ -32,7 +32,7 @@ use Rattle.live_history_laws.specs.Fitting.{Fits}
 use Rattle.live_history_laws.specs.Names.{AreNamedOnce, AreNew}
 use Rattle.live_session.specs.Connections.{IsServed, IsNotRun, TellsOutcome}
 use Rattle.live_session.specs.Replies.{error_to, told_bytes}
-use Rattle.live_session.specs.Starts.{Start, start_of, AreGiven}
+use Rattle.live_session.specs.Starts.{Start, Log, start_of, AreGiven}
 use Rattle.served_history_laws.specs.Histories.{IsErrorTo, IsRefusedWith, IsAnsweredWith}
 
 -- What the laws of live histories say
@@ -95,7 +95,7 @@ same_plan : (p q : GridPlan) → ◌≡◌ {A = Option GridPlan} (Some p) (Some 
 same_plan p q e = cc
 
 module _ (once : NewAreNamedOnce) (stand : RepliesStand) (partitions : PartitionsFit) (objects : ObjectsFit)
-    (place : Workplace LiveWorld GridPlan (Event Request) Happened) (given : List ℕ) (starts : List Start) (by_clock : AreGiven starts given)
+    (place : Workplace LiveWorld GridPlan (Event Request) Happened) (given : List ℕ) (log : Log) (by_clock : AreGiven log.starts given)
     (plan : GridPlan) (some : 1 ≤ plan.members) (history : List (Event Request)) (new : AreNew history) (member : ℕ) (request : Request)
     (plan_is : slice_get (roster_of place.cells.items).plans request.partition ≡ Some plan) where
   abbrev entries : List (Entry Request)
@@ -104,7 +104,7 @@ module _ (once : NewAreNamedOnce) (stand : RepliesStand) (partitions : Partition
   fits : Fits (one_object (settings_for plan) (target_of request)) (asks_of (target_of request)) plan history entries
   fits = objects plan history (target_of request) some (once history new)
 
-  module _ (outcome : LiveOutcome) (served : IsServed live_key LiveTells live_call starts place member request history outcome) where
+  module _ (outcome : LiveOutcome) (served : IsServed live_key LiveTells live_call log place member request history outcome) where
     abbrev own : Event Request
     own = live_call member request served.now
 
@@ -150,7 +150,7 @@ module _ (once : NewAreNamedOnce) (stand : RepliesStand) (partitions : Partition
     by_outcome : (o : LiveOutcome) → LiveTells plan served.until own o → (bytes : List ℕ) → told_bytes request.correlation o ≡ Some bytes → IsAnsweredWith given plan history member request bytes
     by_outcome (live.Replied reply) tells bytes is = inl (record {
       now = served.now;
-      by_clock = moment_given starts given by_clock (start_of request served.now) served.given;
+      by_clock = moment_given log.starts given by_clock (start_of request served.now) served.given;
       came = contains_in own history in_history;
       entry = subst (λ (r : List ℕ). HasEntry entries request.id request served.now r) (sym (some_bytes bytes reply is))
           (fits.told served.until served.later member request.id request served.now (live.Replied reply) served.cut (came_until reply tells) is_own tells);
@@ -172,7 +172,7 @@ module _ (once : NewAreNamedOnce) (stand : RepliesStand) (partitions : Partition
     by_outcome live.Memory tells bytes is = absurd tells
 
   -- a call that wasn't run stands nowhere
-  not_run : (bytes : List ℕ) → IsNotRun live_key LiveTells live_call starts place request history bytes → IsRefusedWith given plan history request bytes
+  not_run : (bytes : List ℕ) → IsNotRun live_key LiveTells live_call log place request history bytes → IsRefusedWith given plan history request bytes
   not_run bytes refused = record {
     nowhere = λ call there same.
         let came = (fits.came call there).1 in
@@ -180,8 +180,8 @@ module _ (once : NewAreNamedOnce) (stand : RepliesStand) (partitions : Partition
     error = (refused.code, pos 0, refused.reply_is);
   }
 
-  pub is_answered : (bytes : List ℕ) → TellsOutcome live_key LiveTells live_call starts place member request history bytes ⊎ IsNotRun live_key LiveTells live_call starts place request history bytes
+  pub is_answered : (bytes : List ℕ) → TellsOutcome live_key LiveTells live_call log place member request history bytes ⊎ IsNotRun live_key LiveTells live_call log place request history bytes
       → IsAnsweredWith given plan history member request bytes
   is_answered bytes = ⊎_elim
-      (λ (tells : TellsOutcome live_key LiveTells live_call starts place member request history bytes). by_outcome tells.outcome tells.served tells.outcome (told tells.outcome tells.served) bytes tells.reply_is)
-      (λ (refused : IsNotRun live_key LiveTells live_call starts place request history bytes). inr (not_run bytes refused))
+      (λ (tells : TellsOutcome live_key LiveTells live_call log place member request history bytes). by_outcome tells.outcome tells.served tells.outcome (told tells.outcome tells.served) bytes tells.reply_is)
+      (λ (refused : IsNotRun live_key LiveTells live_call log place request history bytes). inr (not_run bytes refused))

@@ -1,5 +1,5 @@
 -- Each call that was seen is that of one message of a connection that came, and no two have one name.
-use Rattle.std.proofs.Common.{◌≡◌, ◌⊎◌, inl, inr, ⊎_elim, ℕ, suc, ◌+◌, ◌<◌, ◌≤◌, ◌==◌, Bool, true, false, cond, List, [], ◌∷◌, ◌++◌, length, get_or, Contains, Some, slice_get, refl, sym, ap, ◌∙◌, subst, arith}
+use Rattle.std.proofs.Common.{◌≡◌, ◌⊎◌, inl, inr, ⊎_elim, ℕ, suc, ◌<◌, ◌≤◌, ◌==◌, Bool, true, false, cond, List, [], ◌∷◌, ◌++◌, length, get_or, Contains, Some, slice_get, refl, sym, ap, ◌∙◌, subst, arith}
 use Rattle.std.proofs.lemmas.Bool.Decides.{nat_tests}
 use Rattle.std.proofs.lemmas.List.Sums.{sum_by-append}
 use Rattle.grid_base.specs.declared.names.CallId.{CallId}
@@ -10,6 +10,7 @@ use Rattle.hand_cell.specs.declared.names.Key.TheVariants as key
 use Rattle.hand_cell.specs.Names.{IsNewKey}
 use Rattle.hand_cell.specs.Told.{Told}
 use Rattle.partition_protocol.proofs.Lists.{In, in_contains}
+use Rattle.loop_journal.specs.declared.entry.Entry.{Entry}
 use Rattle.partition_threads.specs.declared.workplace.Workplace.{Workplace}
 use Rattle.partition_world.specs.declared.event.Event.{Event}
 use Rattle.partition_world.specs.declared.event.Happened.{Happened}
@@ -64,17 +65,17 @@ given_back number (given ∷ returns) once = go (given.number == number) refl (�
 less_or_more : (n m : ℕ) → (n < m) ⊎ (m ≤ n)
 less_or_more n m = grind arith
 
-module _ (place : Workplace LiveWorld GridPlan (Event Request) Happened) (given : List ℕ) (passes : List (Told (Event Request))) (book : Book)
-    (all : HasServedAll live_key LiveTells live_call place given passes book) (partition : ℕ) (pass : Told (Event Request)) (there : slice_get passes partition ≡ Some pass) where
+module _ (place : Workplace LiveWorld GridPlan (Event Request) Happened) (given : List ℕ) (journal : List Entry) (passes : List (Told (Event Request))) (book : Book)
+    (all : HasServedAll live_key LiveTells live_call place given journal passes book) (partition : ℕ) (pass : Told (Event Request)) (there : slice_get passes partition ≡ Some pass) where
   -- a call that was seen, at its place
   pub call_at : (before after : List (Event Request)) (event : Event Request) (id : CallId) → pass.seen ≡ before ++ event ∷ after → live_key event ≡ key.Call id
-      → IsOfClient place given passes book all partition event id × AreBelow live_key id.conn id.number before
+      → IsOfClient place given journal passes book all partition event id × AreBelow live_key id.conn id.number before
   call_at before after event id whole named = ⊎_elim came never (less_or_more id.conn (length book.arrivals))
     where
-      never : length book.arrivals ≤ id.conn → IsOfClient place given passes book all partition event id × AreBelow live_key id.conn id.number before
+      never : length book.arrivals ≤ id.conn → IsOfClient place given journal passes book all partition event id × AreBelow live_key id.conn id.number before
       never more = absurd (none_there live_key id.conn before after event id (subst (λ (l : List (Event Request)). AreBelow live_key id.conn 0 l) whole (all.no_other id.conn more partition pass there)) named refl)
 
-      came : id.conn < length book.arrivals → IsOfClient place given passes book all partition event id × AreBelow live_key id.conn id.number before
+      came : id.conn < length book.arrivals → IsOfClient place given journal passes book all partition event id × AreBelow live_key id.conn id.number before
       came less =
           let once = all.once id.conn less in
           let back = given_back id.conn book.returns (omega (arith, once)) in
@@ -84,7 +85,7 @@ module _ (place : Workplace LiveWorld GridPlan (Event Request) Happened) (given 
             subst (λ (n : ℕ). AreBelow live_key n id.number before) back.number_is is.1,
           )
 
-  pub each_of_client : (event : Event Request) (id : CallId) → Contains pass.seen event → live_key event ≡ key.Call id → IsOfClient place given passes book all partition event id
+  pub each_of_client : (event : Event Request) (id : CallId) → Contains pass.seen event → live_key event ≡ key.Call id → IsOfClient place given journal passes book all partition event id
   each_of_client event id within named = let split = split_at pass.seen event within in (call_at split.before split.after event id split.whole named).0
 
   pub are_new : AreNew pass.seen

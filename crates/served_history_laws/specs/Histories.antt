@@ -8,6 +8,7 @@ use Rattle.message_frames.specs.Messages.{messages_of}
 use Rattle.hand_cell.specs.declared.names.Key.TheVariants as key
 use Rattle.hand_cell.specs.Told.{Told}
 use Rattle.job_queues.specs.Roster.{roster_of}
+use Rattle.loop_journal.specs.declared.entry.Entry.{Entry}
 use Rattle.partition_threads.specs.declared.workplace.Workplace.{Workplace}
 use Rattle.call_engine.specs.Objects.{one_object, target_of}
 use Rattle.partition_world.specs.declared.event.Event.{Event}
@@ -64,14 +65,16 @@ module _ (place : Workplace LiveWorld GridPlan (Event Request) Happened) (given 
       → slice_get messages at ≡ Some (Call request) → slice_get replies at ≡ Some bytes → IsHistoryOf request.partition plan history
       → IsAnsweredWith given plan history member request bytes
 
+-- and so stands the journal of the thread that served
+module _ (place : Workplace LiveWorld GridPlan (Event Request) Happened) (given : List ℕ) (journal : List Entry) (passes : List (Told (Event Request))) where
   -- The event is the call of one message of this connection, in the message's partition
-  pub record IsOfConnection {arrivals : List Arrival} {back : Return} (served : WasServed live_key LiveTells live_call place given passes arrivals back) (partition : ℕ) (event : Event Request) (id : CallId) : Type 0 where
+  pub record IsOfConnection {arrivals : List Arrival} {back : Return} (served : WasServed live_key LiveTells live_call place given journal passes arrivals back) (partition : ℕ) (event : Event Request) (id : CallId) : Type 0 where
     pub number : back.number ≡ id.conn
-    pub call : IsCallOf live_key LiveTells live_call served.answered.starts place (items_of back.number served.arrival.member (messages_of true served.answered.read)) served.arrival.member partition event id
+    pub call : IsCallOf live_key LiveTells live_call served.answered.log place (items_of back.number served.arrival.member (messages_of true served.answered.read)) served.arrival.member partition event id
 
   module _ (book : Book) where
     -- it is that of one of the connections that came
-    pub record IsOfClient (clients : HasServedAll live_key LiveTells live_call place given passes book) (partition : ℕ) (event : Event Request) (id : CallId) : Type 0 where
+    pub record IsOfClient (clients : HasServedAll live_key LiveTells live_call place given journal passes book) (partition : ℕ) (event : Event Request) (id : CallId) : Type 0 where
       pub at : ℕ
       pub other : Return
       pub within : at < length book.returns
@@ -79,17 +82,17 @@ module _ (place : Workplace LiveWorld GridPlan (Event Request) Happened) (given 
 
     -- The clients that came through the doors were served from one thread's use of each object.
     pub record TellsHistories : Type 0 where
-      pub clients : HasServedAll live_key LiveTells live_call place given passes book
+      pub clients : HasServedAll live_key LiveTells live_call place given journal passes book
       -- what was seen of each object in each partition is what one thread could have seen that used one object, and no call stands in it twice
-      pub objects : (partition : ℕ) (plan : GridPlan) (history : List (Event Request)) → IsHistoryOf partition plan history
+      pub objects : (partition : ℕ) (plan : GridPlan) (history : List (Event Request)) → IsHistoryOf place given passes partition plan history
           → (name : ObjectKey) → Fits (one_object (settings_for plan) name) (asks_of name) plan history (object_trail plan history name)
       -- each call of a connection that was answered stands in it, at the connection's member, with the reply whose bytes the connection was sent at its place
       pub answered : (at : ℕ) (other : Return) (within : at < length book.returns)
-          → AreAnswered (clients.served at other within).arrival.member (clients.served at other within).answered.answers.answered (clients.served at other within).answered.answers.replies
+          → AreAnswered place given passes (clients.served at other within).arrival.member (clients.served at other within).answered.answers.answered (clients.served at other within).answered.answers.replies
       -- each call that was seen is that of one message of a connection that came, and was seen once
-      pub calls : (partition : ℕ) (plan : GridPlan) (history : List (Event Request)) → IsHistoryOf partition plan history
+      pub calls : (partition : ℕ) (plan : GridPlan) (history : List (Event Request)) → IsHistoryOf place given passes partition plan history
           → (event : Event Request) (id : CallId) → Contains history event → live_key event ≡ key.Call id → IsOfClient clients partition event id
-      pub once : (partition : ℕ) (plan : GridPlan) (history : List (Event Request)) → IsHistoryOf partition plan history → AreNew history
+      pub once : (partition : ℕ) (plan : GridPlan) (history : List (Event Request)) → IsHistoryOf place given passes partition plan history → AreNew history
 
 -- The law
 
@@ -99,5 +102,5 @@ HaveMembers place = (partition : ℕ) (plan : GridPlan) → slice_get (roster_of
 
 -- A server that has served all connections by what its passes have seen tells histories
 abbrev pub ServedTellsHistories : (given : List ℕ) → Type 0
-ServedTellsHistories given = (place : Workplace LiveWorld GridPlan (Event Request) Happened) (passes : List (Told (Event Request))) (book : Book)
-    → HaveMembers place → HasServedAll live_key LiveTells live_call place given passes book → TellsHistories place given passes book
+ServedTellsHistories given = (place : Workplace LiveWorld GridPlan (Event Request) Happened) (journal : List Entry) (passes : List (Told (Event Request))) (book : Book)
+    → HaveMembers place → HasServedAll live_key LiveTells live_call place given journal passes book → TellsHistories place given journal passes book

@@ -32,6 +32,7 @@ pub(crate) struct Ran {
     pub(crate) status: Status,
     pub(crate) told: Vec<u8>,
     pub(crate) has_grid: bool,
+    pub(crate) is_closed: bool,
     pub(crate) doors: Guests,
 }
 
@@ -66,6 +67,7 @@ pub(crate) fn run<G: Gate, R: Threads + Wait + Sync>(
         status: ended.status,
         told: out.into_bytes(),
         has_grid: ended.grid.is_some(),
+        is_closed: ended.closed.is_some(),
         doors,
     })
 }

@@ -19,7 +19,7 @@ fn words_that_are_no_options_run_nothing(rt: HostRuntime) -> Result<(), Fail> {
     )?;
     assert_eq!(rt; ran.status, Status::Usage);
     assert!(rt; ran.told.is_empty());
-    assert!(rt; !ran.has_grid);
+    assert!(rt; !ran.has_grid && !ran.is_closed);
     Ok(())
 }
 
@@ -47,7 +47,7 @@ fn doors_that_fail_later_let_the_script_end(rt: HostRuntime) -> Result<(), Fail>
     )?;
     assert_eq!(rt; ran.status, Status::DoorFault);
     assert_eq!(rt; ran.told.as_slice(), b"1 ok\n2 ok\n".as_slice());
-    assert!(rt; ran.has_grid);
+    assert!(rt; ran.has_grid && !ran.is_closed);
     Ok(())
 }
 
@@ -62,7 +62,7 @@ fn a_control_script_without_clients(rt: HostRuntime) -> Result<(), Fail> {
         ran.told.as_slice(),
         b"1 ok\n2 ok\n3 nothing\n4 ok\n".as_slice()
     );
-    assert!(rt; ran.has_grid);
+    assert!(rt; ran.has_grid && ran.is_closed);
     Ok(())
 }
 

@@ -16,6 +16,7 @@ use grid_base::Memory;
 use grid_edge::{FixedClock, MemoryReady, MemorySink, MemorySource};
 use live_grid::{LiveGrid, LiveWorld};
 use live_session::{Blocking, Connection, ConnectionEnd, Turned, serve_connection};
+use loop_journal::Journal;
 use partition_threads::{OpenGate, WorkerTokens, Workplace, worker};
 use session_calls::SessionPass;
 use std::alloc::Global;
@@ -62,9 +63,18 @@ fn take_turns<R: Wait>(
 {
     let (mut from, mut to) = streams;
     let mut clock = FixedClock::new(7);
+    let mut journal = Journal::new();
     let mut connection = Connection::new(alloc, session);
     for _ in rt.forever() {
-        match connection.turn(rt, alloc, place, &mut from, &mut to, &mut clock) {
+        match connection.turn(
+            rt,
+            alloc,
+            place,
+            &mut from,
+            &mut to,
+            &mut clock,
+            &mut journal,
+        ) {
             Turned::Moved => {}
             Turned::NotYet => thread::yield_now(),
             Turned::Ended(end) => {

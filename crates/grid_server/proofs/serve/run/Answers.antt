@@ -1,13 +1,12 @@
-use Rattle.std.proofs.Common.{inl, inr, map, Some, refl, sym, subst}
+use Rattle.std.proofs.Common.{map, Some, refl, sym, subst}
 use Rattle.live_grid.specs.Grids.{place_of}
 use Rattle.live_grid.specs.Histories.{live_key}
 use Rattle.live_grid.specs.declared.grid.LiveGrid.{LiveGrid}
 use Rattle.session_calls.specs.Passes.{AreJoinedWith}
 use Rattle.grid_server.specs.Settings.{AreWorkers}
-use Rattle.grid_server.proofs.Ending.{may_gather, rest_gathers, has_served, on_ok, on_err}
+use Rattle.grid_server.proofs.Ending.{may_gather, rest_gathers, has_served, ends_as}
 use Rattle.grid_server.proofs.Opening.{may_meet}
 use Rattle.grid_server.proofs.serve.run.Goals as goal
-use Rattle.grid_server.proofs.serve.run.Goals.{in-Ok, in-Err}
 
 pub run_threads-ran-requires-clause-workers : goal.run_threads-ran-requires-clause-workers
 run_threads-ran-requires-clause-workers g c κs within =
@@ -26,9 +25,6 @@ gather-requires-clause-other g c = rest_gathers _ _ c.run_threads-ran.new.connec
 pub returns-clause-served : goal.returns-clause-served
 returns-clause-served g c =
     let joined = subst (λ passes. AreJoinedWith live_key c.run_threads-ran.new.pass.passes.items (map (λ part. Some part) passes.items) c.gather.new.pass.passes.items) c.into_parts-passes.ensures.0 c.gather.ensures.joined in
-    λ forms is. has_served c.args.options forms c.args.setting is _ _ c.into_grid-grid.ensures c.new-stage.ensures.grid c.requires.some _
-    (c.every_served_connection_stays_so.ensures _ _) (c.every_served_call_stands_in_a_legal_history.ensures _) c.every_noted_order_stays_so.ensures _ _ _ _ _ _ _ _ _ _ _ c.run_threads-ran.new.connections c.new-stage.ensures.options refl c.requires.doors c.in-Some.ensures.served c.in-Some.ensures.operated joined c.gather.ensures.kept
-    (elim c.match-ended.branch [
-      | in-Ok w ↦ inl (w.status-is, on_ok _ _ _ w.in-Ok.is c.in-Some.ensures.served.let_in)
-      | in-Err w ↦ inr (w.status-is, on_err _ _ _ w.in-Err.is c.in-Some.ensures.served.cause.rose)
-    ]) _ c.into_parts-passes.ensures.2
+    λ forms is. has_served c.args.options forms c.args.setting is _ _ c.into_grid-grid.ensures c.new-stage.ensures.grid g.D.Doors.empty_looks c.requires.some _ _
+    (c.every_served_connection_stays_so.ensures _ _ _) (c.every_served_call_stands_in_a_legal_history.ensures _) c.every_noted_order_stays_so.ensures (c.every_answer_before_a_call_stands_first.ensures _ _) _ _ _ _ _ _ _ _ _ _ _ _ c.run_threads-ran.new.connections c.new-stage.ensures.options refl c.requires.doors c.in-Some.ensures.served c.in-Some.ensures.operated joined c.gather.ensures.kept
+    (ends_as _ _ _ _ _ _ _ c.ending-status.ensures.closed c.ending-status.ensures.fault c.in-Some.ensures.served.let_in c.in-Some.ensures.served.cause) c.into_parts-passes.ensures.2

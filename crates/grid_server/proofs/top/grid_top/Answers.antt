@@ -33,10 +33,10 @@ pub returns-in-Some-clause-sampled : goal.returns-in-Some-clause-sampled
 returns-in-Some-clause-sampled g c = λ number asked. sampled_as _ _ _ _ _ _ _ _ (same_some _ _ (c.in-Some.ensures ∙ asked)) refl refl c.sample_command.ensures
 
 pub returns-then-is_serve_command-clause-histories : goal.returns-then-is_serve_command-clause-histories
-returns-then-is_serve_command-clause-histories g c = λ server. serves_histories _ _ _ _ _ _ _ _ c.serve_command.ensures
+returns-then-is_serve_command-clause-histories g c = λ server. serves_histories _ _ _ _ _ _ _ _ _ c.serve_command.ensures
 
 pub returns-then-is_serve_command-clause-in_order : goal.returns-then-is_serve_command-clause-in_order
-returns-then-is_serve_command-clause-in_order g c = λ server. serves_in_order _ _ _ _ _ _ _ _ c.serve_command.ensures
+returns-then-is_serve_command-clause-in_order g c = λ server. serves_in_order _ _ _ _ _ _ _ _ _ c.serve_command.ensures
 
 pub returns-then-is_serve_command-clause-sampled : goal.returns-then-is_serve_command-clause-sampled
 returns-then-is_serve_command-clause-sampled g c = λ number asked. absurd (some_none _ (sym asked ∙ sym c.in_default.ensures))

@@ -1,19 +1,19 @@
 use Rattle.std.proofs.Common.{[], ◌++◌}
-use Rattle.live_session.specs.Starts.{with_start}
+use Rattle.live_session.specs.Starts.{after_turn, nothing_done}
 use Rattle.server_tests.specs.Sessions.{none_seen}
 use Rattle.server_tests.proofs.connection.tests.take_turns.Goals as goal
 
 pub loop-init : goal.loop-init
-loop-init g c = (none_seen, [], [], [], c.new-connection.ensures.served c.args.place.now none_seen c.requires.fresh)
+loop-init g c = (none_seen, nothing_done, [], [], c.new-connection.ensures.served c.args.place.now none_seen c.requires.fresh)
 
 pub loop-preserved-in-Moved : goal.loop-preserved-in-Moved
 loop-preserved-in-Moved g c =
     let s = c.loop.invariant in
     let turn = c.in-Moved.ensures.turned s.0 s.1 s.2 s.3 s.4 in
-    (turn.sees, with_start turn.started s.1, s.2 ++ turn.moves.read, s.3 ++ turn.moves.written, turn.stands.0)
+    (turn.sees, after_turn s.1 turn.started turn.entries, s.2 ++ turn.moves.read, s.3 ++ turn.moves.written, turn.stands.0)
 
 pub loop-preserved : goal.loop-preserved
 loop-preserved g c =
     let s = c.loop.invariant in
     let turn = c.in-NotYet.ensures.turned s.0 s.1 s.2 s.3 s.4 in
-    (turn.sees, with_start turn.started s.1, s.2 ++ turn.moves.read, s.3 ++ turn.moves.written, turn.stands.0)
+    (turn.sees, after_turn s.1 turn.started turn.entries, s.2 ++ turn.moves.read, s.3 ++ turn.moves.written, turn.stands.0)
