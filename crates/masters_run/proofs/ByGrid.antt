@@ -21,6 +21,7 @@ use Rattle.script_lang.specs.Lines.{IsWithin}
 use Rattle.replay_run.specs.Runs.{Run, At, partitions, takes, takes_in, next_line, event_by}
 use Rattle.replay_run.specs.Endings.{AreAmong, new_arrivals}
 use Rattle.replay_run.specs.Grids.{FormOf, most_arriving}
+use Rattle.replay_run.specs.AsText as printed
 use Rattle.replay_run.specs.Grids as alone
 use Rattle.replay_run.specs.Printing.{ok_text, nothing_text, line_text as alone_text}
 use Rattle.replay_run.proofs.Bounds as bounds
@@ -53,7 +54,7 @@ module _ {V : Type 0} {T : V → Type 0} {form : FormOf V T} {settings : Setting
     here : P (by_grid (partition_object settings) skips s line).run → P (after_line (partition_object settings) skips s line).run
     here is = subst P (sym (ap (λ (x : RuledRun). x.run) (h.after skips) ∙ h.run skips)) is
 
-  pub alone_ran : (written text : List ℕ) → alone.HasRun form settings new.grid s.run line written text → HasRun form settings new s line written text
+  pub alone_ran : (written text : List ℕ) → printed.HasRun form settings new.grid s.run line written text → HasRun form settings new s line written text
   alone_ran written text ran =
       let k = ran.skips in
       let lines = bounds.line_lines (partition_object settings) k s.run line in

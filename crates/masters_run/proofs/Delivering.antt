@@ -23,7 +23,7 @@ use Rattle.replay_run.specs.Endings.{AreAmong, new_arrivals}
 use Rattle.replay_run.specs.Printing.{deliveries}
 use Rattle.replay_run.specs.Grids.{FormOf}
 use Rattle.replay_run.specs.WorldCalls.{texts_of, GivesUpSo}
-use Rattle.replay_run.specs.WorldCalls as alone
+use Rattle.replay_run.specs.AsText as printed
 use Rattle.replay_run.proofs.Flowing.{delivered, deliveries_are, deliveries_counted, had_room, took_one}
 use Rattle.replay_run.proofs.Growing.{Grows}
 use Rattle.replay_run.proofs.LineTexts.{texts-append, new_with}
@@ -158,7 +158,7 @@ module _ (settings : Settings) (s : RuledRun) (p : ℕ) where
       one_step k = flowed_some o k by_then p zero l next ∙ delivery_goes o by_then p l next k low
 
       module _ (is_ruled : has_masters by_then ≡ true) (placed : p < partitions) where
-        taken_on : (new : RuledGrid V T) → new.masters ≡ mid.masters → (e : Event Request) → e ≡ delivery_on l → (happened : Happened) (text : List ℕ) → alone.HasTaken form settings new.grid by_then.run p e happened so_far text
+        taken_on : (new : RuledGrid V T) → new.masters ≡ mid.masters → (e : Event Request) → e ≡ delivery_on l → (happened : Happened) (text : List ℕ) → printed.HasTaken form settings new.grid by_then.run p e happened so_far text
             → HasGoneOn form settings new by_then (delivering settings by_then p (suc zero)) (told_by settings by_then p (suc zero)) so_far text
         taken_on new kept e is happened text taken =
             let k = taken.on.skips in
@@ -177,7 +177,7 @@ module _ (settings : Settings) (s : RuledRun) (p : ℕ) where
               added = taken.on.on.added ∙ ap (λ ms. so_far ++ texts_of ms) (sym (new_with by_then.run next_run taken.on.on.messages taken.on.on.appended)) ∙ ap (λ (x : RuledRun). so_far ++ told_since by_then x) (sym same);
             }
 
-        pub one_delivered : (new : RuledGrid V T) → new.masters ≡ mid.masters → (e : Event Request) → e ≡ delivery_on l → (happened : Happened) (text : List ℕ) → alone.HasTaken form settings new.grid by_then.run p e happened so_far text
+        pub one_delivered : (new : RuledGrid V T) → new.masters ≡ mid.masters → (e : Event Request) → e ≡ delivery_on l → (happened : Happened) (text : List ℕ) → printed.HasTaken form settings new.grid by_then.run p e happened so_far text
             → HasDelivered form settings new s p (number + 1) written text
         one_delivered new kept e is happened text taken =
             let step = taken_on new kept e is happened text taken in

@@ -1,5 +1,5 @@
 -- A line of a grid with masters, taken apart: it is counted, what it asks for goes on from there, and behind that the grid stands as between two lines.
-use Rattle.std.proofs.Common.{◌≡◌, ℕ, ◌+◌, ◌<◌, ◌≤◌, true, false, cond, List, [], ◌++◌, length, get_or, refl, ap, sym, ◌∙◌, subst, append_assoc, arith}
+use Rattle.std.proofs.Common.{◌≡◌, ℕ, ◌+◌, ◌<◌, ◌≤◌, true, false, cond, List, [], ◌++◌, length, get_or, ap, sym, ◌∙◌, subst, append_assoc, arith}
 use Rattle.grid_base.specs.Objects.{Object}
 use Rattle.grid_base.specs.declared.names.CallId.{CallId}
 use Rattle.grid_base.specs.declared.calls.Request.{Request}
@@ -14,8 +14,6 @@ use Rattle.script_lang.specs.declared.line.Line.TheVariants.{Comment}
 use Rattle.replay_run.specs.Runs.{partitions, next_line}
 use Rattle.replay_run.specs.Rebalancing.{most_line_events}
 use Rattle.replay_run.specs.Endings.{AreAmong, new_arrivals}
-use Rattle.replay_run.specs.declared.run_end.RunEnd.{RunEnd}
-use Rattle.replay_run.specs.declared.run_end.RunEnd.TheVariants.{InFlight, Memory}
 use Rattle.replay_run.specs.Grids.{FormOf}
 use Rattle.replay_run.specs.Grids as grid
 use Rattle.replay_run.specs.WorldCalls.{HasRoomAt}
@@ -129,7 +127,3 @@ module _ {V : Type 0} {T : V → Type 0} {form : FormOf V T} where
       of_line = subst (λ (x : RuledRun). AreAmong (new_arrivals s.run x.run) up.skips) (sym (after up.skips)) up.own;
       full = ap (λ (x : RuledRun). x.run.full) (after up.skips) ∙ up.full;
     }
-
-pub only_memory : (end : RunEnd) → (end ≡ InFlight → ⊥) → end ≡ Memory
-only_memory InFlight none = absurd (none refl)
-only_memory Memory none = refl

@@ -1,6 +1,6 @@
 -- A line that is counted, and does nothing else to the grid: it is held back, or it brings the masters.
-use Rattle.std.proofs.Common.{◌≡◌, ℕ, zero, suc, ◌+◌, ◌<◌, ◌≤◌, true, false, true≢false, cond, ◌==◌, List, [], ◌∷◌, ◌++◌, map, length, Option, Some, None, Result, Ok, Err, slice_get, refl, ap, sym, ◌∙◌, subst, ⊎_elim, append-nil, arith}
-use Rattle.std.specs.Prelude.{codes, OnOk}
+use Rattle.std.proofs.Common.{◌≡◌, ℕ, zero, suc, ◌+◌, ◌<◌, ◌≤◌, true, false, true≢false, cond, ◌==◌, List, [], ◌∷◌, ◌++◌, map, length, Option, Some, None, slice_get, refl, ap, sym, ◌∙◌, subst, ⊎_elim, append-nil, arith}
+use Rattle.std.specs.Prelude.{codes}
 use Rattle.std.proofs.lemmas.Bool.{cases_eq}
 use Rattle.std.proofs.lemmas.List.{drop_all}
 use Rattle.grid_base.specs.Objects.{Object}
@@ -118,10 +118,6 @@ module _ {V : Type 0} {T : V → Type 0} {form : FormOf V T} {settings : Setting
         added = is ∙ ap (λ n. written ++ ok_text n) at_line
             ∙ ap (λ xs. written ++ xs) (sym (ap (λ x. line_text settings [] s ScriptLines.Masters x) after ∙ text_without_masters settings [] s ScriptLines.Masters next none ∙ ap (λ b. cond b (ok_text (s.run.lines + 1)) (nothing_text (s.run.lines + 1))) first));
       }
-
-pub on_ok_two : {T E P Q R : Type 0} (r : Result T E) → (P → Q → R) → OnOk r P → OnOk r Q → OnOk r R
-on_ok_two (Ok x) f p q = f p q
-on_ok_two (Err e) f p q = tt
 
 -- One partition more has its masters.
 pub opened_more : (before : List Masters) (new : Masters) (members : ℕ) → ((p : ℕ) (masters : Masters) → slice_get before p ≡ Some masters → (size_of masters ≡ members) × StandsFor masters []) → size_of new ≡ members → StandsFor new []

@@ -24,6 +24,7 @@ use Rattle.replay_run.specs.Printing.{words_line, words_of, fate_words, done_wor
 use Rattle.replay_run.specs.declared.grid.Grid.{Grid}
 use Rattle.replay_run.specs.Endings.{AreAmong, new_arrivals}
 use Rattle.replay_run.specs.Grids.{FormOf}
+use Rattle.replay_run.specs.AsText as printed
 use Rattle.replay_run.specs.WorldCalls as grid
 use Rattle.replay_run.specs.WorldCalls.{GivesUpSo, texts_of}
 use Rattle.masters_run.specs.declared.grid.RuledGrid.{RuledGrid}
@@ -59,7 +60,7 @@ module _ {State : Type 0} (o : Object Request State) (w : World Request) where
 
 -- The event has happened, and its outcome and what it appended were told.
 pub taken_so : {V : Type 0} {T : V → Type 0} (form : FormOf V T) (settings : Settings) (new : Grid V T) (r : Run) (p : ℕ) (e : Event Request) (happened : Happened) (start messages : List ℕ) → start ≡ []
-    → grid.HasTaken form settings new r p e happened start messages → (written told text : List ℕ)
+    → printed.HasTaken form settings new r p e happened start messages → (written told text : List ℕ)
     → told ≡ written ++ words_line r.lines (published_words (partition_object settings) (world_at (partition_object settings) r p) e) → text ≡ told ++ messages → HasTaken form settings new r p e written text
 taken_so form settings new r p e happened start messages empty did written told text came more =
     let o = partition_object settings in

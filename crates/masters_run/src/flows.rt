@@ -70,7 +70,7 @@ impl RuledGrid {
                 return Ok(deliveries);
             };
             let delivery = Event::Deliver { from, to, place: 0 };
-            self.grid.take(alloc, partition, delivery, out)?;
+            self.grid.print_event(alloc, partition, delivery, out)?;
             deliveries += 1;
         }
         Ok(deliveries)
@@ -90,7 +90,7 @@ impl RuledGrid {
         ensures ok { (settings : Settings) (s : RuledRun) → Stands (boxed form) settings self.old s → OnOk result (HasRun (boxed form) settings self.new s (ScriptLines.Flow partition most) out.old.items out.new.items) }
         ensures full { (settings : Settings) (s : RuledRun) → Stands (boxed form) settings self.old s → IsErrOf result RunEnds.InFlight → IsGivenUp settings s (ScriptLines.Flow partition most) }
     {
-        self.count(alloc, number)?;
+        self.count(number);
         let mut text = Vec::new(alloc);
         let deliveries = self.deliver_to_members(alloc, partition, most, &mut text)?;
         push_flow(out, number, deliveries)?;
@@ -110,7 +110,7 @@ impl RuledGrid {
         ensures ok { (settings : Settings) (s : RuledRun) → Stands (boxed form) settings self.old s → OnOk result (HasRun (boxed form) settings self.new s (ScriptLines.FlowAll most) out.old.items out.new.items) }
         ensures full { (settings : Settings) (s : RuledRun) → Stands (boxed form) settings self.old s → IsErrOf result RunEnds.InFlight → IsGivenUp settings s (ScriptLines.FlowAll most) }
     {
-        self.count(alloc, number)?;
+        self.count(number);
         let mut text = Vec::new(alloc);
         let mut deliveries = 0;
         for partition in 0..PARTITIONS {
@@ -161,7 +161,7 @@ impl RuledGrid {
         ensures ok { (settings : Settings) (s : RuledRun) → Stands (boxed form) settings self.old s → OnOk result (HasRun (boxed form) settings self.new s (ScriptLines.MasterFlow partition most) out.old.items out.new.items) }
         ensures full { (settings : Settings) (s : RuledRun) → Stands (boxed form) settings self.old s → IsErrOf result RunEnds.InFlight → IsGivenUp settings s (ScriptLines.MasterFlow partition most) }
     {
-        self.count(alloc, number)?;
+        self.count(number);
         let mut text = Vec::new(alloc);
         let deliveries = self.deliver_to_masters(alloc, partition, most, &mut text)?;
         push_flow(out, number, deliveries)?;

@@ -139,7 +139,7 @@ impl RuledGrid {
     {
         match line {
             Line::Masters if number == 2 => self.begin_masters(alloc, number, out),
-            _ => self.grid.run_line(alloc, number, line, out),
+            _ => self.grid.print_line(alloc, number, line, out),
         }
     }
 
@@ -153,7 +153,7 @@ impl RuledGrid {
         ensures memory { (end : RunEndOf) → IsErrOf result end → end ≡ RunEnds.Memory }
     {
         self.masters = opening_masters(alloc, self.grid.members())?;
-        self.count(alloc, number)?;
+        self.count(number);
         Ok(push_ok(out, number)?)
     }
 
@@ -174,7 +174,7 @@ impl RuledGrid {
             return self.run_proposal(alloc, number, partition, &decision, out);
         }
         if self.is_held_back(line) {
-            return self.pass(alloc, number, out);
+            return Ok(self.pass(number, out)?);
         }
         self.run_at_once(alloc, number, line, out)
     }
@@ -245,9 +245,9 @@ impl RuledGrid {
             Line::Detect { member } => self.run_detection(alloc, number, *member, out),
             Line::Crash { member } => {
                 self.crash(*member);
-                self.grid.run_line(alloc, number, line, out)
+                self.grid.print_line(alloc, number, line, out)
             }
-            _ => self.grid.run_line(alloc, number, line, out),
+            _ => self.grid.print_line(alloc, number, line, out),
         }
     }
 
@@ -349,26 +349,25 @@ impl RuledGrid {
         }
     }
 
-    /// Counts a line, whose events are then taken one by one.
-    pub(crate) fn count(&mut self, alloc: Global, number: u32) -> Result<(), RunEnd>
+    /// Counts a line, whose events are then taken one by one. Takes no memory.
+    pub(crate) fn count(&mut self, number: u32)
         requires { grid.MayRun (boxed form) self.old.grid number ScriptLines.Comment }
-        ensures amid { (settings : Settings) (r : Run) → grid.Stands (boxed form) settings self.old.grid r → OnOk result (amid.IsAmid (boxed form) settings self.new.grid (next_line r)) }
-        ensures memory { (end : RunEndOf) → IsErrOf result end → end ≡ RunEnds.Memory }
+        ensures amid { (settings : Settings) (r : Run) → grid.Stands (boxed form) settings self.old.grid r
+            → amid.IsAmid (boxed form) settings self.new.grid (next_line r) }
         ensures masters { self.new.masters ≡ self.old.masters }
     {
-        let mut text = Vec::new(alloc);
-        self.grid.run_line(alloc, number, &Line::Comment, &mut text)
+        self.grid.begin_line(number);
     }
 
     /// Counts a line whose condition is false.
-    fn pass(&mut self, alloc: Global, number: u32, out: &mut Vec<u8>) -> Result<(), RunEnd>
+    fn pass(&mut self, number: u32, out: &mut Vec<u8>) -> Result<(), Memory>
         requires { grid.MayRun (boxed form) self.old.grid number ScriptLines.Comment }
-        ensures amid { (settings : Settings) (r : Run) → grid.Stands (boxed form) settings self.old.grid r → OnOk result (amid.IsAmid (boxed form) settings self.new.grid (next_line r)) }
-        ensures memory { (end : RunEndOf) → IsErrOf result end → end ≡ RunEnds.Memory }
+        ensures amid { (settings : Settings) (r : Run) → grid.Stands (boxed form) settings self.old.grid r
+            → amid.IsAmid (boxed form) settings self.new.grid (next_line r) }
         ensures masters { self.new.masters ≡ self.old.masters }
         ensures text { OnOk result (out.new.items ≡ out.old.items ++ nothing_text number) }
     {
-        self.count(alloc, number)?;
-        Ok(push_nothing(out, number)?)
+        self.count(number);
+        push_nothing(out, number)
     }
 }

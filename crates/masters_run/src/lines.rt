@@ -38,7 +38,7 @@ impl RuledGrid {
         ensures full { (settings : Settings) (s : RuledRun) (line : ScriptLine) → Stands (boxed form) settings self.old s → ProposesAt (boxed form) self.old line partition decision.now
             → IsErrOf result RunEnds.InFlight → IsGivenUp settings s line }
     {
-        self.count(alloc, number)?;
+        self.count(number);
         let mut text = Vec::new(alloc);
         let proposal = self.propose(alloc, partition, decision, &mut text)?;
         push_proposal(out, number, proposal)?;
@@ -58,7 +58,7 @@ impl RuledGrid {
         ensures ok { (settings : Settings) (s : RuledRun) → Stands (boxed form) settings self.old s → OnOk result (HasRun (boxed form) settings self.new s (ScriptLines.Detect member) out.old.items out.new.items) }
         ensures full { (settings : Settings) (s : RuledRun) → Stands (boxed form) settings self.old s → IsErrOf result RunEnds.InFlight → IsGivenUp settings s (ScriptLines.Detect member) }
     {
-        self.count(alloc, number)?;
+        self.count(number);
         push_ok(out, number)?;
         for partition in 0..PARTITIONS {
             self.detect(alloc, partition, member, out)?;
@@ -111,7 +111,7 @@ impl RuledGrid {
         ensures ok { (settings : Settings) (s : RuledRun) → Stands (boxed form) settings self.old s → OnOk result (HasRun (boxed form) settings self.new s (ScriptLines.Told member crashed) out.old.items out.new.items) }
         ensures full { (settings : Settings) (s : RuledRun) → Stands (boxed form) settings self.old s → IsErrOf result RunEnds.InFlight → IsGivenUp settings s (ScriptLines.Told member crashed) }
     {
-        self.count(alloc, number)?;
+        self.count(number);
         let mut text = Vec::new(alloc);
         let mut done = false;
         for partition in 0..PARTITIONS {
@@ -140,7 +140,7 @@ impl RuledGrid {
         ensures ok { (settings : Settings) (s : RuledRun) → Stands (boxed form) settings self.old s → OnOk result (HasRun (boxed form) settings self.new s (ScriptLines.MasterDeliver partition from to place) out.old.items out.new.items) }
         ensures full { (settings : Settings) (s : RuledRun) → Stands (boxed form) settings self.old s → IsErrOf result RunEnds.InFlight → IsGivenUp settings s (ScriptLines.MasterDeliver partition from to place) }
     {
-        self.count(alloc, number)?;
+        self.count(number);
         let mut text = Vec::new(alloc);
         let took = self.hand_over(alloc, partition, from, to, place, &mut text)?;
         push_took(out, number, took)?;
@@ -163,7 +163,7 @@ impl RuledGrid {
         ensures ok { (settings : Settings) (s : RuledRun) → Stands (boxed form) settings self.old s → OnOk result (HasRun (boxed form) settings self.new s (ScriptLines.MasterLose partition from to place) out.old.items out.new.items) }
         ensures full { (settings : Settings) (s : RuledRun) → Stands (boxed form) settings self.old s → IsErrOf result RunEnds.InFlight → IsGivenUp settings s (ScriptLines.MasterLose partition from to place) }
     {
-        self.count(alloc, number)?;
+        self.count(number);
         let done = self.masters[usize::from(partition)].lose(from, to, place);
         Ok(push_done(out, number, done)?)
     }
@@ -182,7 +182,7 @@ impl RuledGrid {
         ensures ok { (settings : Settings) (s : RuledRun) → Stands (boxed form) settings self.old s → OnOk result (HasRun (boxed form) settings self.new s (ScriptLines.MasterResend partition member) out.old.items out.new.items) }
         ensures full { (settings : Settings) (s : RuledRun) → Stands (boxed form) settings self.old s → IsErrOf result RunEnds.InFlight → IsGivenUp settings s (ScriptLines.MasterResend partition member) }
     {
-        self.count(alloc, number)?;
+        self.count(number);
         let done = self.resend(alloc, partition, member)?;
         Ok(push_done(out, number, done)?)
     }

@@ -108,7 +108,9 @@ impl RuledGrid {
         let done = done_word(&event);
         let detects = matches!(event, Event::Detect { .. });
         let mut messages = Vec::new(alloc);
-        let happened = self.grid.take(alloc, partition, event, &mut messages)?;
+        let happened = self
+            .grid
+            .print_event(alloc, partition, event, &mut messages)?;
         if detects {
             push_fate(out, line, happened)?;
         } else {

@@ -20,6 +20,7 @@ use Rattle.partition_world.specs.RecordedEntries.{entry_of}
 use Rattle.table_service.specs.Services.{Setup}
 use Rattle.partition_world.specs.Worlds.{steps_of, run_of, setup_of, node_count, Comes}
 use Rattle.partition_world.proofs.Places.{read_there}
+use Rattle.line_told.specs.declared.told.Told.{Told}
 use Rattle.replay_run.specs.declared.grid.Grid.{Grid}
 use Rattle.replay_run.specs.Runs.{Run, Arrival, events_at, moment_of, world_at, call_of, Appended, Waiter, arrival_at, without, ending, arrived, happening, partitions}
 use Rattle.replay_run.specs.Rebalancing.{most_line_events}
@@ -40,10 +41,10 @@ pub handed_on : {T E : Type 0} (r : Result T E) (e why : E) → IsErrAnd r (λ y
 handed_on r e why ensured is = sym (subst (λ x. IsErrAnd x (λ y. y ≡ e)) is ensured)
 
 -- what a call did, in an environment that makes these settings
-abbrev pub Did : Settings → GridWorld → GridWorld → List (Event Request) → Arrival → List ℕ → List ℕ → Reception → Type 0
-Did settings old new events a before after reception = (text : List ℕ) × (after ≡ before ++ text) × (IsCalledSo settings old new events a text reception ⊎ IsSkippedSo settings old new events a text reception)
+abbrev pub Did : Settings → GridWorld → GridWorld → List (Event Request) → Arrival → List Told → List Told → Reception → Type 0
+Did settings old new events a before after reception = (told : List Told) × (after ≡ before ++ told) × (IsCalledSo settings old new events a told reception ⊎ IsSkippedSo settings old new events a told reception)
 
-pub did_by : {V : Type 0} {T : V → Type 0} (form : FormOf V T) (env : GridEnv V T) (settings : Settings) → settings_of form env ≡ settings → (old new : GridWorld) (events : List (Event Request)) (a : Arrival) (before after : List ℕ) (reception : Reception)
+pub did_by : {V : Type 0} {T : V → Type 0} (form : FormOf V T) (env : GridEnv V T) (settings : Settings) → settings_of form env ≡ settings → (old new : GridWorld) (events : List (Event Request)) (a : Arrival) (before after : List Told) (reception : Reception)
     → (StandsForEvents (settings_of form env) old events → NamedOnce (map name (arrivals (events ++ call_of a ∷ []))) → Did (settings_of form env) old new events a before after reception)
     → StandsForEvents settings old events → NamedOnce (map name (arrivals (events ++ call_of a ∷ []))) → Did settings old new events a before after reception
 did_by form env settings goes_by old new events a before after reception = subst (λ s. StandsForEvents s old events → NamedOnce (map name (arrivals (events ++ call_of a ∷ []))) → Did s old new events a before after reception) goes_by
@@ -77,9 +78,9 @@ pub nodes_of : (settings : Settings) (world : GridWorld) (r : Run) (p : ℕ) →
 nodes_of settings world r p is = nodes_by settings world (events_at p r.events) is.stands ∙ ap (λ (x : Setup). x.members) is.setup
 
 -- also once it ran the call, or skipped it
-pub nodes_did : (settings : Settings) (old new : GridWorld) (events : List (Event Request)) (a : Arrival) (before after : List ℕ) (reception : Reception) → Did settings old new events a before after reception → node_count new ≡ (setup_of old).members
-nodes_did settings old new events a before after reception (text, is, inl did) = nodes_by settings new (events ++ call_of a ∷ []) did.called.stands ∙ ap (λ (x : Setup). x.members) did.called.setup
-nodes_did settings old new events a before after reception (text, is, inr did) = nodes_by settings new events did.skipped.stands ∙ ap (λ (x : Setup). x.members) did.skipped.setup
+pub nodes_did : (settings : Settings) (old new : GridWorld) (events : List (Event Request)) (a : Arrival) (before after : List Told) (reception : Reception) → Did settings old new events a before after reception → node_count new ≡ (setup_of old).members
+nodes_did settings old new events a before after reception (told, is, inl did) = nodes_by settings new (events ++ call_of a ∷ []) did.called.stands ∙ ap (λ (x : Setup). x.members) did.called.setup
+nodes_did settings old new events a before after reception (told, is, inr did) = nodes_by settings new events did.skipped.stands ∙ ap (λ (x : Setup). x.members) did.skipped.setup
 
 -- the clock of a member, where the code reads it
 module _ {V : Type 0} {T : V → Type 0} {form : FormOf V T} {settings : Settings} (grid : Grid V T) (r : Run) (h : Holds form settings grid r) (member i : ℕ) (within : member < grid.members) (same : i ≡ member) where

@@ -1,6 +1,6 @@
--- The lines of events: the run goes on from its next line, whose text is the outcome and the messages.
+-- The lines of events: the run goes on from its next line, and tells the outcome and the messages.
 use Rattle.std.proofs.Common.{◌≡◌, ℕ, ◌+◌, ◌≤◌, ◌<◌, false, List, [], ◌++◌, Some, refl, ap, sym, ◌∙◌, subst, append-nil, append_assoc, arith}
-use Rattle.std.specs.List.{find, flat_map}
+use Rattle.std.specs.List.{find}
 use Rattle.grid_base.specs.declared.names.CallId.{CallId}
 use Rattle.partition_protocol.specs.Arrivals.{asked_by}
 use Rattle.partition_protocol.specs.Events as event
@@ -11,13 +11,13 @@ use Rattle.call_engine.specs.Objects.{partition_object}
 use Rattle.script_lang.specs.Limits.{most_lines}
 use Rattle.script_lang.specs.Lines.{IsWithin}
 use Rattle.script_lang.specs.declared.line.Line.{Line as ScriptLine}
-use Rattle.script_lang.specs.declared.line.Line.TheVariants.{Grid as Begin, OpenConn, Arrive, Clock, Deliver, Lose, Repeat, Flow, FlowAll, Resend, Crash, Detect, Move, Join, Handover, Advance, Reopen, Rebalance, Dump, Links, Trail, Near, NearGet, NearFeed, Masters, Told, MasterDeliver, MasterLose, MasterResend, MasterFlow, Comment, End}
+use Rattle.script_lang.specs.declared.line.Line.TheVariants.{Grid as Begin, OpenConn, Arrive, Clock, Deliver, Lose, Repeat, Flow, FlowAll, Resend, Crash, Detect, Move, Join, Handover, Advance, Reopen, Rebalance, Dump, Links, Trail, Near, NearGet, NearFeed, Masters, Told as IsTold, MasterDeliver, MasterLose, MasterResend, MasterFlow, Comment, End}
 use Rattle.replay_run.specs.declared.events.Fate.{Fate}
 use Rattle.replay_run.specs.declared.events.Fate.TheVariants as fate
 use Rattle.replay_run.specs.declared.grid.Grid.{Grid}
 use Rattle.replay_run.specs.Runs.{Run, At, partitions, is_connection, next_line, event_by, takes, takes_in}
 use Rattle.replay_run.specs.AfterLines.{after_line}
-use Rattle.replay_run.specs.Printing.{does_nothing, line_close, line_dump, line_links, line_text, printed_by, entry_text, outcome_text, outcome_at, words_line, words_of, done_word, fate_words, flow_text, deliveries, line_messages, new_messages}
+use Rattle.replay_run.specs.Printing.{does_nothing, line_dump, line_links, printed_by, outcome_at, words_line, words_of, done_word, deliveries, new_messages, outcome_text, line_messages, line_close}
 use Rattle.replay_run.specs.Rebalancing.{most_line_events}
 use Rattle.replay_run.specs.Endings.{new_arrivals, AreAmong}
 use Rattle.replay_run.specs.Skips.{AreOfLine}
@@ -28,7 +28,11 @@ use Rattle.replay_run.proofs.Bounds.{messages_fewer, arrivals_fewer, kept_small}
 use Rattle.replay_run.proofs.EventRuns.{Kept}
 use Rattle.replay_run.proofs.GridLines.{counted, next_holds}
 use Rattle.replay_run.proofs.LineBounds.{line_bounded}
-use Rattle.replay_run.proofs.LineTexts.{text_with}
+use Rattle.replay_run.proofs.LineTexts.{told_with}
+use Rattle.replay_run.specs.LineTold.{came_to, all_told, is_advance, outcome_told, messages_told, line_closing, line_told}
+use Rattle.line_told.specs.Happenings.{event_told, fate_told}
+use Rattle.line_told.specs.declared.told.LineOutcome.TheVariants.{Flowed}
+use Rattle.line_told.specs.declared.told.Told.{Told}
 
 -- the run of the next line, before its events
 pub counted_amid : {V : Type 0} {T : V → Type 0} {form : FormOf V T} {settings : Settings} (grid : Grid V T) (r : Run) (number : ℕ) → Stands form settings grid r → number ≡ r.lines + 1 → IsAmid form settings (counted grid number) (next_line r)
@@ -61,9 +65,11 @@ line_given_up settings r line onward after up = record {
   full = ap (λ (x : Run). x.full) (after up.skips) ∙ up.full;
 }
 
--- It prints its outcome and its messages alone.
+-- It tells its outcome and its messages alone, and they alone are its text.
 pub record PrintsMessages (settings : Settings) (skips : List CallId) (r next : Run) (line : ScriptLine) : Type 0 where
   pub goes : does_nothing (partition_object settings) r line ≡ false
+  pub tells : messages_told settings skips r line next ≡ all_told (new_messages r next)
+  pub closes : line_closing next line ≡ []
   pub said : line_messages settings skips r line next ≡ texts_of (new_messages r next)
   pub close : line_close next line ≡ []
   pub dump : line_dump (partition_object settings) next line ≡ []
@@ -72,7 +78,7 @@ pub record PrintsMessages (settings : Settings) (skips : List CallId) (r next : 
 
 module _ {V : Type 0} {T : V → Type 0} {form : FormOf V T} {settings : Settings} (grid new : Grid V T) (r : Run) (skips : List CallId) (next : Run) (line : ScriptLine) (s : Stands form settings grid r) (limit : r.lines + 1 ≤ most_lines)
     (after : after_line (partition_object settings) skips r line ≡ next) (own : AreAmong (new_arrivals r next) skips) (kept : Kept (next_line r) next) (few : AreFew next) (prints : PrintsMessages settings skips r next line)
-    (start said : List ℕ) (on : HasGoneOn form settings new (next_line r) next start said) where
+    (start said : List Told) (on : HasGoneOn form settings new (next_line r) next start said) where
   stands_now : Stands form settings new next
   stands_now = record {
     run = on.amid.run;
@@ -85,30 +91,31 @@ module _ {V : Type 0} {T : V → Type 0} {form : FormOf V T} {settings : Setting
     reached = λ c k found. subst (λ m. k.member < m) (sym kept.members) (s.reached c k (ap (find (is_connection c)) (sym kept.connections) ∙ found));
   }
 
-  abbrev parts : List ℕ
-  parts = outcome_text settings r line next ++ texts_of on.messages
+  abbrev parts : List Told
+  parts = outcome_told settings r line next ++ all_told on.messages
 
-  its_text : line_text settings skips r line next ≡ outcome_text settings r line next ++ texts_of on.messages
-  its_text =
-      text_with settings skips r next line on.messages prints.goes prints.said on.appended
-      ∙ (λ i. parts ++ prints.close i ++ prints.dump i ++ prints.links i ++ flat_map (entry_text next.lines) (prints.printed i))
-      ∙ append-nil (parts ++ [] ++ [] ++ []) ∙ append-nil (parts ++ [] ++ []) ∙ append-nil (parts ++ []) ∙ append-nil parts
+  line_tells : line_told settings skips r line next ≡ outcome_told settings r line next ++ all_told on.messages
+  line_tells =
+      told_with settings skips r next line on.messages prints.goes prints.tells on.appended
+      ∙ ap (λ xs. parts ++ xs) prints.closes
+      ∙ append-nil parts
 
-  pub events_line : (outcome written mid text : List ℕ) → start ≡ [] → outcome ≡ outcome_text settings r line next → mid ≡ written ++ outcome → text ≡ mid ++ said → HasRun form settings new r line written text
-  events_line outcome written mid text none outcome_is began is = record {
+  pub events_line : (outcome earlier mid later : List Told) → start ≡ [] → outcome ≡ outcome_told settings r line next → mid ≡ earlier ++ outcome → later ≡ mid ++ said → HasRun form settings new r line earlier later
+  events_line outcome earlier mid later none outcome_is began is = record {
     skips = skips;
     of_line = subst (λ (x : Run). AreAmong (new_arrivals r x) skips) (sym after) own;
     stands = subst (Stands form settings new) (sym after) stands_now;
     added =
-        is ∙ (λ i. (began ∙ ap (λ xs. written ++ xs) outcome_is) i ++ (on.added ∙ ap (λ xs. xs ++ texts_of on.messages) none) i)
-        ∙ append_assoc written (outcome_text settings r line next) (texts_of on.messages)
-        ∙ ap (λ xs. written ++ xs) (sym (ap (λ (x : Run). line_text settings skips r line x) after ∙ its_text));
+        is ∙ (λ i. (began ∙ ap (λ xs. earlier ++ xs) outcome_is) i ++ (on.added ∙ ap (λ xs. xs ++ all_told on.messages) none) i)
+        ∙ append_assoc earlier (outcome_told settings r line next) (all_told on.messages)
+        ∙ ap (λ xs. earlier ++ xs) (sym (ap (λ (x : Run). line_told settings skips r line x) after ∙ line_tells));
   }
 
 -- one event of a partition
 
 pub record IsOfEvent (settings : Settings) (r : Run) (line : ScriptLine) (e : At) : Type 0 where
   pub after : (skips : List CallId) → after_line (partition_object settings) skips r line ≡ takes (partition_object settings) skips (next_line r) e.partition e.event
+  pub tells : (next : Run) → came_to (event_told (is_advance e.event) (outcome_at (partition_object settings) r e.partition e.event)) ≡ outcome_told settings r line next
   pub outcome : (next : Run) → words_line next.lines (words_of (done_word e.event) (outcome_at (partition_object settings) r e.partition e.event)) ≡ outcome_text settings r line next
   pub prints : (skips : List CallId) (next : Run) → PrintsMessages settings skips r next line
   pub unasked : asked_by e.event ≡ []
@@ -120,23 +127,23 @@ module _ (settings : Settings) (r : Run) where
 
   pub of_event : (line : ScriptLine) (e : At) → event_by line ≡ Some e → IsOfEvent settings r line e
   of_event (Deliver p from to place) e same = same_event (Deliver p from to place) (record { partition = p; event = event.Deliver from to place }) e same
-      (record { after = λ skips. refl; outcome = λ next. refl; prints = λ skips next. record { goes = refl; said = refl; close = refl; dump = refl; links = refl; printed = refl }; unasked = refl; within = λ members size h. (let low = h.0 in omega (arith, low)) })
+      (record { after = λ skips. refl; tells = λ next. refl; outcome = λ next. refl; prints = λ skips next. record { goes = refl; tells = refl; closes = refl; said = refl; close = refl; dump = refl; links = refl; printed = refl }; unasked = refl; within = λ members size h. (let low = h.0 in omega (arith, low)) })
   of_event (Lose p from to place) e same = same_event (Lose p from to place) (record { partition = p; event = event.Lose from to place }) e same
-      (record { after = λ skips. refl; outcome = λ next. refl; prints = λ skips next. record { goes = refl; said = refl; close = refl; dump = refl; links = refl; printed = refl }; unasked = refl; within = λ members size h. (let low = h.0 in omega (arith, low)) })
+      (record { after = λ skips. refl; tells = λ next. refl; outcome = λ next. refl; prints = λ skips next. record { goes = refl; tells = refl; closes = refl; said = refl; close = refl; dump = refl; links = refl; printed = refl }; unasked = refl; within = λ members size h. (let low = h.0 in omega (arith, low)) })
   of_event (Repeat p from to place) e same = same_event (Repeat p from to place) (record { partition = p; event = event.Repeat from to place }) e same
-      (record { after = λ skips. refl; outcome = λ next. refl; prints = λ skips next. record { goes = refl; said = refl; close = refl; dump = refl; links = refl; printed = refl }; unasked = refl; within = λ members size h. (let low = h.0 in omega (arith, low)) })
+      (record { after = λ skips. refl; tells = λ next. refl; outcome = λ next. refl; prints = λ skips next. record { goes = refl; tells = refl; closes = refl; said = refl; close = refl; dump = refl; links = refl; printed = refl }; unasked = refl; within = λ members size h. (let low = h.0 in omega (arith, low)) })
   of_event (Resend p end) e same = same_event (Resend p end) (record { partition = p; event = event.Resend end }) e same
-      (record { after = λ skips. refl; outcome = λ next. refl; prints = λ skips next. record { goes = refl; said = refl; close = refl; dump = refl; links = refl; printed = refl }; unasked = refl; within = λ members size h. (let low = h.0 in omega (arith, low)) })
+      (record { after = λ skips. refl; tells = λ next. refl; outcome = λ next. refl; prints = λ skips next. record { goes = refl; tells = refl; closes = refl; said = refl; close = refl; dump = refl; links = refl; printed = refl }; unasked = refl; within = λ members size h. (let low = h.0 in omega (arith, low)) })
   of_event (Move p from to) e same = same_event (Move p from to) (record { partition = p; event = event.BeginMove from to }) e same
-      (record { after = λ skips. refl; outcome = λ next. refl; prints = λ skips next. record { goes = refl; said = refl; close = refl; dump = refl; links = refl; printed = refl }; unasked = refl; within = λ members size h. (let low = h.0 in omega (arith, low)) })
+      (record { after = λ skips. refl; tells = λ next. refl; outcome = λ next. refl; prints = λ skips next. record { goes = refl; tells = refl; closes = refl; said = refl; close = refl; dump = refl; links = refl; printed = refl }; unasked = refl; within = λ members size h. (let low = h.0 in omega (arith, low)) })
   of_event (Join p to) e same = same_event (Join p to) (record { partition = p; event = event.BeginJoin to }) e same
-      (record { after = λ skips. refl; outcome = λ next. refl; prints = λ skips next. record { goes = refl; said = refl; close = refl; dump = refl; links = refl; printed = refl }; unasked = refl; within = λ members size h. (let low = h.0 in omega (arith, low)) })
+      (record { after = λ skips. refl; tells = λ next. refl; outcome = λ next. refl; prints = λ skips next. record { goes = refl; tells = refl; closes = refl; said = refl; close = refl; dump = refl; links = refl; printed = refl }; unasked = refl; within = λ members size h. (let low = h.0 in omega (arith, low)) })
   of_event (Handover p from to) e same = same_event (Handover p from to) (record { partition = p; event = event.BeginHandover from to }) e same
-      (record { after = λ skips. refl; outcome = λ next. refl; prints = λ skips next. record { goes = refl; said = refl; close = refl; dump = refl; links = refl; printed = refl }; unasked = refl; within = λ members size h. (let low = h.0 in omega (arith, low)) })
+      (record { after = λ skips. refl; tells = λ next. refl; outcome = λ next. refl; prints = λ skips next. record { goes = refl; tells = refl; closes = refl; said = refl; close = refl; dump = refl; links = refl; printed = refl }; unasked = refl; within = λ members size h. (let low = h.0 in omega (arith, low)) })
   of_event (Advance p) e same = same_event (Advance p) (record { partition = p; event = event.Advance }) e same
-      (record { after = λ skips. refl; outcome = λ next. refl; prints = λ skips next. record { goes = refl; said = refl; close = refl; dump = refl; links = refl; printed = refl }; unasked = refl; within = λ members size h. omega (arith, h) })
+      (record { after = λ skips. refl; tells = λ next. refl; outcome = λ next. refl; prints = λ skips next. record { goes = refl; tells = refl; closes = refl; said = refl; close = refl; dump = refl; links = refl; printed = refl }; unasked = refl; within = λ members size h. omega (arith, h) })
   of_event (Reopen p) e same = same_event (Reopen p) (record { partition = p; event = event.Reopen }) e same
-      (record { after = λ skips. refl; outcome = λ next. refl; prints = λ skips next. record { goes = refl; said = refl; close = refl; dump = refl; links = refl; printed = refl }; unasked = refl; within = λ members size h. omega (arith, h) })
+      (record { after = λ skips. refl; tells = λ next. refl; outcome = λ next. refl; prints = λ skips next. record { goes = refl; tells = refl; closes = refl; said = refl; close = refl; dump = refl; links = refl; printed = refl }; unasked = refl; within = λ members size h. omega (arith, h) })
   of_event (Begin members backups capacity) e same = absurd cc
   of_event (OpenConn c member) e same = absurd cc
   of_event (Arrive c bytes) e same = absurd cc
@@ -153,7 +160,7 @@ module _ (settings : Settings) (r : Run) where
   of_event (NearGet c key) e same = absurd cc
   of_event (NearFeed c most) e same = absurd cc
   of_event Masters e same = absurd cc
-  of_event (Told member crashed) e same = absurd cc
+  of_event (IsTold member crashed) e same = absurd cc
   of_event (MasterDeliver p from to place) e same = absurd cc
   of_event (MasterLose p from to place) e same = absurd cc
   of_event (MasterResend p member) e same = absurd cc
@@ -167,22 +174,22 @@ module _ (settings : Settings) (r : Run) where
   -- flows
 
   pub flow_prints : (skips : List CallId) (next : Run) (p most : ℕ) → PrintsMessages settings skips r next (Flow p most)
-  flow_prints skips next p most = record { goes = refl; said = refl; close = refl; dump = refl; links = refl; printed = refl }
+  flow_prints skips next p most = record { goes = refl; tells = refl; closes = refl; said = refl; close = refl; dump = refl; links = refl; printed = refl }
 
   pub flow_all_prints : (skips : List CallId) (next : Run) (most : ℕ) → PrintsMessages settings skips r next (FlowAll most)
-  flow_all_prints skips next most = record { goes = refl; said = refl; close = refl; dump = refl; links = refl; printed = refl }
+  flow_all_prints skips next most = record { goes = refl; tells = refl; closes = refl; said = refl; close = refl; dump = refl; links = refl; printed = refl }
 
   -- It tells how many messages were delivered.
-  pub flow_outcome : (next : Run) (number delivered : ℕ) → number ≡ next.lines → deliveries (next_line r) next ≡ delivered → flow_text number delivered ≡ flow_text next.lines (deliveries r next)
-  flow_outcome next number delivered at_line counts = λ i. flow_text (at_line i) (sym counts i)
+  pub flow_outcome : (next : Run) (delivered : ℕ) → deliveries (next_line r) next ≡ delivered → came_to (Flowed delivered) ≡ came_to (Flowed (deliveries r next))
+  flow_outcome next delivered counts = λ i. came_to (Flowed (sym counts i))
 
   -- the same event of all partitions
 
   pub record IsOfFate (f : Fate) : Type 0 where
     pub after : (skips : List CallId) → after_line (partition_object settings) skips r (line_of_fate f) ≡ takes_in (partition_object settings) skips (next_line r) (event_in_all f) (numbers_below partitions)
-    pub outcome : (next : Run) → words_line next.lines (fate_words (outcome_at (partition_object settings) r 0 (event_in_all f))) ≡ outcome_text settings r (line_of_fate f) next
+    pub tells : (next : Run) → came_to (fate_told (outcome_at (partition_object settings) r 0 (event_in_all f))) ≡ outcome_told settings r (line_of_fate f) next
     pub prints : (skips : List CallId) (next : Run) → PrintsMessages settings skips r next (line_of_fate f)
 
   pub of_fate : (f : Fate) → IsOfFate f
-  of_fate (fate.Crash member) = record { after = λ skips. refl; outcome = λ next. refl; prints = λ skips next. record { goes = refl; said = refl; close = refl; dump = refl; links = refl; printed = refl } }
-  of_fate (fate.Detect member) = record { after = λ skips. refl; outcome = λ next. refl; prints = λ skips next. record { goes = refl; said = refl; close = refl; dump = refl; links = refl; printed = refl } }
+  of_fate (fate.Crash member) = record { after = λ skips. refl; tells = λ next. refl; prints = λ skips next. record { goes = refl; tells = refl; closes = refl; said = refl; close = refl; dump = refl; links = refl; printed = refl } }
+  of_fate (fate.Detect member) = record { after = λ skips. refl; tells = λ next. refl; prints = λ skips next. record { goes = refl; tells = refl; closes = refl; said = refl; close = refl; dump = refl; links = refl; printed = refl } }

@@ -32,7 +32,7 @@ use Rattle.replay_run.specs.Tallies.{received}
 use Rattle.replay_run.specs.Counts.{is_refused, is_out_of_memory}
 use Rattle.replay_run.specs.declared.tally.Reception.{Reception}
 use Rattle.replay_run.specs.Grids.{FormOf, GridWorld, HasTable, HasWaiters, IsTally, AreListening, HasWorld, Holds}
-use Rattle.replay_run.specs.WorldCalls.{with_answers, going_out, texts_of, messages_in, IsAppended, IsCalled, IsSkipped, IsCalledSo, IsSkippedSo}
+use Rattle.replay_run.specs.WorldCalls.{with_answers, going_out, messages_in, IsAppended, IsCalled, IsSkipped, IsCalledSo, IsSkippedSo}
 use Rattle.replay_run.proofs.RunFacts.{RunOk}
 use Rattle.replay_run.proofs.Arriving.{MayCome, its_event}
 use Rattle.replay_run.proofs.WaiterLists.{waiters_alike}
@@ -40,28 +40,30 @@ use Rattle.replay_run.proofs.GivingOut.{HasGivenOut}
 use Rattle.replay_run.proofs.Answering.{refusals_answer_none}
 use Rattle.replay_run.proofs.Places.{same_call_refl}
 use Rattle.replay_run.proofs.Tallies.{HasTallied, called_so, skipped_so}
-use Rattle.replay_run.proofs.LineTexts.{new_with, texts-append}
+use Rattle.replay_run.proofs.LineTexts.{new_with, told-append}
 use Rattle.replay_run.proofs.Speaking.{spoken, spoken_more, alike_table}
 use Rattle.replay_run.proofs.Releasing.{changes_are, none_adopted, spoken_at, messages_refuse_none}
 use Rattle.replay_run.proofs.Listening.{still_listening}
 use Rattle.replay_run.proofs.TableRuns.{refusals_table, answers_table}
 use Rattle.replay_run.proofs.WorldRuns.{run_is, ran_to, released_here, called_worlds, nothing_waits, skipped_worlds}
+use Rattle.replay_run.specs.LineTold.{all_told}
+use Rattle.line_told.specs.declared.told.Told.{Told}
 
 -- where the call reaches its member
 abbrev pub reaching_to : Run → Option ℕ → Arrival → ℕ → Reaching
 reaching_to r own a known = record { line = r.lines; partition = a.request.partition; member = a.member; known = known; own = own }
 
--- The text of a call: what answered it at once, and what its world appended.
-abbrev pub HasText : Settings → GridWorld → Run → Option ℕ → Arrival → ℕ → List ℕ → List ℕ → List ℕ → Type 0
-HasText settings called r own a known written added text =
-    (events : List (Event Request)) → IsAppended (grid_meaning settings) KeepsAll RequestFits called events (reaching_to r own a known) r (listening r own a.member) (written ++ added) text
+-- What a call tells: what answered it at once, and what its world appended.
+abbrev pub HasSaid : Settings → GridWorld → Run → Option ℕ → Arrival → ℕ → List Told → List Told → List Told → Type 0
+HasSaid settings called r own a known earlier added later =
+    (events : List (Event Request)) → IsAppended (grid_meaning settings) KeepsAll RequestFits called events (reaching_to r own a known) r (listening r own a.member) (earlier ++ added) later
 
 -- the same where the code says it of its own line
-pub call_said : (settings : Settings) (called : GridWorld) (r : Run) (own : Option ℕ) (a : Arrival) (line known : ℕ) → r.lines ≡ line → (written added mid text : List ℕ) → mid ≡ written ++ added
-    → ((events : List (Event Request)) → IsAppended (grid_meaning settings) KeepsAll RequestFits called events (record { line = line; partition = a.request.partition; member = a.member; known = known; own = own }) r (listening r own a.member) mid text)
-    → HasText settings called r own a known written added text
-call_said settings called r own a line known at_line written added mid text began is events stands =
-    is events stands ∙ ap (λ xs. xs ++ texts_of (messages_in (grid_meaning settings) called events (reaching_to r own a known) r (listening r own a.member))) began
+pub call_said : (settings : Settings) (called : GridWorld) (r : Run) (own : Option ℕ) (a : Arrival) (line known : ℕ) → r.lines ≡ line → (earlier added mid later : List Told) → mid ≡ earlier ++ added
+    → ((events : List (Event Request)) → IsAppended (grid_meaning settings) KeepsAll RequestFits called events (record { line = line; partition = a.request.partition; member = a.member; known = known; own = own }) r (listening r own a.member) mid later)
+    → HasSaid settings called r own a known earlier added later
+call_said settings called r own a line known at_line earlier added mid later began is events stands =
+    is events stands ∙ ap (λ xs. xs ++ all_told (messages_in (grid_meaning settings) called events (reaching_to r own a known) r (listening r own a.member))) began
 
 -- All that the grid has of a run but for its table and its tally.
 pub record HoldsApart {V : Type 0} {T : V → Type 0} (form : FormOf V T) (settings : Settings) (grid : Grid V T) (r : Run) : Type 0 where
@@ -90,19 +92,19 @@ pub record IsAfter {V : Type 0} {T : V → Type 0} (grid new : Grid V T) (line p
   pub worlds : new.worlds.items ≡ slice_set grid.worlds.items partition world
 
 -- A call was made, or found no memory, and the messages that this appended were printed.
-pub record HasMade {V : Type 0} {T : V → Type 0} (form : FormOf V T) (settings : Settings) (new : Grid V T) (r : Run) (own : Option ℕ) (a : Arrival) (written text : List ℕ) : Type 0 where
+pub record HasMade {V : Type 0} {T : V → Type 0} (form : FormOf V T) (settings : Settings) (new : Grid V T) (r : Run) (own : Option ℕ) (a : Arrival) (earlier later : List Told) : Type 0 where
   pub skips : List CallId
   pub its_own : (id : CallId) → Contains skips id → a.request.id ≡ id
   pub holds : Holds form settings new (asked (partition_object settings) skips r own a)
   pub listeners : AreListening new.listeners.items (asked (partition_object settings) skips r own a) own
-  pub added : text ≡ written ++ texts_of (new_messages r (asked (partition_object settings) skips r own a))
+  pub added : later ≡ earlier ++ all_told (new_messages r (asked (partition_object settings) skips r own a))
 
 module _ {V : Type 0} {T : V → Type 0} {form : FormOf V T} {settings : Settings} (grid : Grid V T) (r : Run) (ok : RunOk (partition_object settings) r) (h : HoldsApart form settings grid r) (own : Option ℕ) (a : Arrival) (may : MayCome r a)
     (are : AreListening grid.listeners.items r own) (low : a.request.partition < partitions) (table : Table) (come_table : HasTable table (record r { arrivals = r.arrivals ++ a ∷ [] }))
-    (new : Grid V T) (called world : GridWorld) (known : ℕ) (knew : known ≡ version_known (world_at (partition_object settings) r a.request.partition) a.member) (reception : Reception) (added written text : List ℕ)
+    (new : Grid V T) (called world : GridWorld) (known : ℕ) (knew : known ≡ version_known (world_at (partition_object settings) r a.request.partition) a.member) (reception : Reception) (added earlier later : List Told)
     (after : IsAfter grid new r.lines a.request.partition table world (going_out r own (waiting called a.member)))
     (out : HasGivenOut settings called world a.member)
-    (wrote : HasText settings called r own a known written added text)
+    (wrote : HasSaid settings called r own a known earlier added later)
     (tally : (next : Run) → next.arrivals ≡ r.arrivals ++ a ∷ [] → next.waiters ≡ r.waiters → HasTallied reception grid.tally next → IsTally new.tally next)
     (rows : grid.tally.refused ≡ count_by (is_refused r) r.arrivals) (shortages : grid.tally.memory ≡ count_by (is_out_of_memory r) r.arrivals) where
   abbrev o : Object Request Partition
@@ -197,22 +199,22 @@ module _ {V : Type 0} {T : V → Type 0} {form : FormOf V T} {settings : Setting
       worlds = λ q below. subst (λ ws. HasWorld settings ws called_run q) (sym after.worlds) (called_worlds grid.worlds.items r a world called_run old refl refl called added did out refl q (h.worlds q below));
     }
 
-    added_is : added ≡ texts_of refused
-    added_is = did.text ∙ ap (λ w. texts_of (refused_by a.made a.request (happens o w (call_of a)).outcome)) (run_is old.world r p old.is)
+    added_is : added ≡ all_told refused
+    added_is = did.told ∙ ap (λ w. all_told (refused_by a.made a.request (happens o w (call_of a)).outcome)) (run_is old.world r p old.is)
 
-    called_text : text ≡ written ++ texts_of (new_messages r called_run)
-    called_text =
-        wrote (events_at p r.events ++ call_of a ∷ []) did.stands ∙ (λ i. (written ++ added_is i) ++ texts_of (messages_are i))
-        ∙ append_assoc written (texts_of refused) (texts_of given)
-        ∙ ap (λ xs. written ++ xs) (sym (ap texts_of (new_with r called_run (happening o r own a) refl) ∙ texts-append refused given))
+    called_told : later ≡ earlier ++ all_told (new_messages r called_run)
+    called_told =
+        wrote (events_at p r.events ++ call_of a ∷ []) did.stands ∙ (λ i. (earlier ++ added_is i) ++ all_told (messages_are i))
+        ∙ append_assoc earlier (all_told refused) (all_told given)
+        ∙ ap (λ xs. earlier ++ xs) (sym (ap all_told (new_with r called_run (happening o r own a) refl) ∙ told-append refused given))
 
-    pub call_ran : HasMade form settings new r own a written text
+    pub call_ran : HasMade form settings new r own a earlier later
     call_ran = record {
       skips = [];
       its_own = λ id there. absurd (in_contains id [] there);
       holds = called_holds;
       listeners = listening_in called_run refl refl;
-      added = called_text;
+      added = called_told;
     }
 
   -- the call found no memory
@@ -271,20 +273,20 @@ module _ {V : Type 0} {T : V → Type 0} {form : FormOf V T} {settings : Setting
         (λ i. messages_at r own p all (adopted_since (knew i) (world_is i) a.member) (waits i))
         ∙ ap (λ row. messages_at r own p all row []) (none_adopted before a.member)
 
-    skipped_text : text ≡ written ++ texts_of (new_messages r skipped_run)
-    skipped_text =
-        wrote (events_at p r.events) missed.stands ∙ (λ i. (written ++ missed.text i) ++ texts_of (nothing_said i))
-        ∙ append-nil (written ++ texts_of excuse)
-        ∙ ap (λ ms. written ++ texts_of ms) (sym (new_with r skipped_run excuse refl))
+    skipped_told : later ≡ earlier ++ all_told (new_messages r skipped_run)
+    skipped_told =
+        wrote (events_at p r.events) missed.stands ∙ (λ i. (earlier ++ missed.told i) ++ all_told (nothing_said i))
+        ∙ append-nil (earlier ++ all_told excuse)
+        ∙ ap (λ ms. earlier ++ all_told ms) (sym (new_with r skipped_run excuse refl))
 
     its_own_call : (id : CallId) → Contains (a.request.id ∷ []) id → a.request.id ≡ id
     its_own_call id there = ⊎_elim (λ e. e) (λ i. absurd i) (in_contains id (a.request.id ∷ []) there)
 
-    pub call_skipped : HasMade form settings new r own a written text
+    pub call_skipped : HasMade form settings new r own a earlier later
     call_skipped = record {
       skips = a.request.id ∷ [];
       its_own = its_own_call;
       holds = subst (Holds form settings new) (sym asked_is) skipped_holds;
       listeners = subst (λ x. AreListening new.listeners.items x own) (sym asked_is) (listening_in skipped_run refl refl);
-      added = skipped_text ∙ ap (λ (n : Run). written ++ texts_of (new_messages r n)) (sym asked_is);
+      added = skipped_told ∙ ap (λ (n : Run). earlier ++ all_told (new_messages r n)) (sym asked_is);
     }

@@ -30,7 +30,7 @@ use Rattle.replay_run.specs.ScriptRuns.{event_occurred}
 use Rattle.replay_run.specs.Shelves.{grid_meaning}
 use Rattle.replay_run.specs.Tables.{Table}
 use Rattle.replay_run.specs.Grids.{FormOf, GridWorld, StandsForEvents, IsWorld, HasTable, HasWaiters, IsSettled, IsTally, AreListening, HasWorld, Holds}
-use Rattle.replay_run.specs.WorldCalls.{texts_of, with_answers, going_out, messages_in, reaching_of, HasRoomAt, IsAmid, HasOccurred}
+use Rattle.replay_run.specs.WorldCalls.{with_answers, going_out, messages_in, reaching_of, HasRoomAt, IsAmid, HasOccurred}
 use Rattle.replay_run.proofs.Arriving.{arrivals-append, events_with_one, maybe_one}
 use Rattle.replay_run.proofs.Asking.{world_there, world_is, stands_by}
 use Rattle.replay_run.proofs.GivingOut.{HasGivenOut}
@@ -42,6 +42,8 @@ use Rattle.replay_run.proofs.TableCounts.{counting_answers}
 use Rattle.replay_run.proofs.WorldRuns.{same_events, run_is, ran_to}
 use Rattle.partition_world.specs.Recorders.{KeepsAll}
 use Rattle.replay_run.proofs.WaiterLists.{waiters_alike}
+use Rattle.replay_run.specs.LineTold.{all_told}
+use Rattle.line_told.specs.declared.told.Told.{Told}
 
 -- what an event releases
 
@@ -296,14 +298,14 @@ module _ {V : Type 0} {T : V → Type 0} {form : FormOf V T} {settings : Setting
   listening_now : AreListening new.listeners.items next None
   listening_now = subst (λ ls. AreListening ls next None) (sym after.listeners) (record { size = amid.listeners.size; each = amid.listeners.each })
 
-  pub event_taken : meets_full before event ≡ false → (written text : List ℕ) → text ≡ written ++ texts_of (said taker) → HasOccurred form settings new r p event happened written text
-  event_taken goes written text wrote = record {
+  pub event_taken : meets_full before event ≡ false → (earlier later : List Told) → later ≡ earlier ++ all_told (said taker) → HasOccurred form settings new r p event happened earlier later
+  event_taken goes earlier later wrote = record {
     goes = goes;
     on = record {
       amid = record { run = event_occurred r p event amid.run quiet; holds = holds_now; listeners = listening_now; settled = settled_now };
       messages = given_out o r p event;
       appended = refl;
-      added = wrote ∙ ap (λ ms. written ++ texts_of ms) messages_are;
+      added = wrote ∙ ap (λ ms. earlier ++ all_told ms) messages_are;
     };
     outcome = did.outcome ∙ ap (λ w. (happens o w event).outcome) its_run;
   }
@@ -350,11 +352,11 @@ with_table grid p world given table worlds answered placed = record {
 }
 
 -- What an event did where it reached a member was appended.
-pub record HasReleased {V : Type 0} {T : V → Type 0} (settings : Settings) (grid mid : Grid V T) (r : Run) (p : ℕ) (event : Event Request) (called : GridWorld) (taker : Option ℕ) (written text : List ℕ) : Type 0 where
+pub record HasReleased {V : Type 0} {T : V → Type 0} (settings : Settings) (grid mid : Grid V T) (r : Run) (p : ℕ) (event : Event Request) (called : GridWorld) (taker : Option ℕ) (earlier later : List Told) : Type 0 where
   pub world : GridWorld
   pub out : HasGivenAt settings called world taker
   pub after : IsAfterEvent grid mid p world (going_out r None (waiting_at called taker)) []
-  pub added : text ≡ written ++ texts_of (said_at settings r p event called taker)
+  pub added : later ≡ earlier ++ all_told (said_at settings r p event called taker)
 
 -- an event that reaches a member, and one that doesn't
 
@@ -369,43 +371,43 @@ pub reaches_none : (settings : Settings) (r : Run) (p : ℕ) (taker : Option ℕ
 reaches_none settings r p None e = refl
 reaches_none settings r p (Some member) e = absurd cc
 
-module _ {V : Type 0} {T : V → Type 0} (settings : Settings) (grid mid : Grid V T) (r : Run) (p : ℕ) (event : Event Request) (called : GridWorld) (taker : Option ℕ) (written text : List ℕ) where
-  pub released_some : (table : Table) (worlds : Vec GridWorld Global) (world : GridWorld) (at : Reaching) (made : List ℕ) → (taker ≡ Some at.member) × (at ≡ reaching_of settings r p at.member) → grid.lines ≡ r.lines
-      → mid ≡ record grid { connections = table; worlds = worlds } → text ≡ made → HasGivenOut settings called world at.member
+module _ {V : Type 0} {T : V → Type 0} (settings : Settings) (grid mid : Grid V T) (r : Run) (p : ℕ) (event : Event Request) (called : GridWorld) (taker : Option ℕ) (earlier later : List Told) where
+  pub released_some : (table : Table) (worlds : Vec GridWorld Global) (world : GridWorld) (at : Reaching) (made : List Told) → (taker ≡ Some at.member) × (at ≡ reaching_of settings r p at.member) → grid.lines ≡ r.lines
+      → mid ≡ record grid { connections = table; worlds = worlds } → later ≡ made → HasGivenOut settings called world at.member
       → table ≡ with_answers grid.connections at.line (going_out r at.own (waiting called at.member)) → worlds.items ≡ slice_set grid.worlds.items p world
-      → made ≡ written ++ texts_of (messages_in (grid_meaning settings) called (events_at p r.events ++ event ∷ []) at r (listening r None at.member))
-      → HasReleased settings grid mid r p event called taker written text
+      → made ≡ earlier ++ all_told (messages_in (grid_meaning settings) called (events_at p r.events ++ event ∷ []) at r (listening r None at.member))
+      → HasReleased settings grid mid r p event called taker earlier later
   released_some table worlds world at made (its, where_it) at_line same made_it out answered placed is =
       let own : at.own ≡ None = ap (λ (x : Reaching). x.own) where_it in
       let line : at.line ≡ grid.lines = ap (λ (x : Reaching). x.line) where_it ∙ sym at_line in
       let out_table : table ≡ with_answers grid.connections grid.lines (going_out r None (waiting called at.member)) = answered ∙ (λ i. with_answers grid.connections (line i) (going_out r (own i) (waiting called at.member))) in
-      subst (λ t. HasReleased settings grid mid r p event called t written text) (sym its)
-      (subst (λ m. HasReleased settings grid m r p event called (Some at.member) written text) (sym same)
+      subst (λ t. HasReleased settings grid mid r p event called t earlier later) (sym its)
+      (subst (λ m. HasReleased settings grid m r p event called (Some at.member) earlier later) (sym same)
       (record {
         world = world;
         out = gave_at settings called world at.member out;
         after = with_table grid p world (going_out r None (waiting called at.member)) table worlds out_table placed;
-        added = made_it ∙ is ∙ ap (λ x. written ++ texts_of (messages_in (grid_meaning settings) called (events_at p r.events ++ event ∷ []) x r (listening r None at.member))) where_it;
+        added = made_it ∙ is ∙ ap (λ x. earlier ++ all_told (messages_in (grid_meaning settings) called (events_at p r.events ++ event ∷ []) x r (listening r None at.member))) where_it;
       }))
 
-  pub released_none : (worlds : Vec GridWorld Global) → taker ≡ None → mid ≡ record grid { worlds = worlds } → text ≡ written → worlds.items ≡ slice_set grid.worlds.items p called → HasReleased settings grid mid r p event called taker written text
+  pub released_none : (worlds : Vec GridWorld Global) → taker ≡ None → mid ≡ record grid { worlds = worlds } → later ≡ earlier → worlds.items ≡ slice_set grid.worlds.items p called → HasReleased settings grid mid r p event called taker earlier later
   released_none worlds its same is placed =
-      subst (λ t. HasReleased settings grid mid r p event called t written text) (sym its)
-      (subst (λ m. HasReleased settings grid m r p event called None written text) (sym same)
-      (record { world = called; out = gave_nothing settings called; after = with_table grid p called [] grid.connections worlds refl placed; added = is ∙ sym (append-nil written) }))
+      subst (λ t. HasReleased settings grid mid r p event called t earlier later) (sym its)
+      (subst (λ m. HasReleased settings grid m r p event called None earlier later) (sym same)
+      (record { world = called; out = gave_nothing settings called; after = with_table grid p called [] grid.connections worlds refl placed; added = is ∙ sym (append-nil earlier) }))
 
 -- It ran, and its answers were given out.
 module _ {V : Type 0} {T : V → Type 0} {form : FormOf V T} {settings : Settings} (grid : Grid V T) (r : Run) (amid : IsAmid form settings grid r) (p i : ℕ) (low : p < partitions) (same : i ≡ p) (event : Event Request) (quiet : asked_by event ≡ [])
     (old : GridWorld) (read : old ≡ get_or grid.worlds.items i old) (goes : meets_full (world_at (partition_object settings) r p) event ≡ false)
     (taker : Option ℕ) (its_taker : taker ≡ taker_of event) (mid new : Grid V T) (called : GridWorld) (happened : Happened)
-    (did : HasStepped settings old called (events_at p r.events) event happened) (written text : List ℕ) (gave : HasReleased settings grid mid r p event called taker written text) where
+    (did : HasStepped settings old called (events_at p r.events) event happened) (earlier later : List Told) (gave : HasReleased settings grid mid r p event called taker earlier later) where
   same_world : old ≡ (amid.holds.worlds p low).world
   same_world =
       let both : Some old ≡ Some (amid.holds.worlds p low).world = sym (world_there grid r amid.holds p i low same old read) ∙ (amid.holds.worlds p low).there in
       cc
 
   pub has_taken : (more : List Reopened) → new.reopened.items ≡ mid.reopened.items ++ more → record new { reopened = mid.reopened } ≡ mid → more ≡ reopening_by p grid.lines event (happened_of happened)
-      → HasOccurred form settings new r p event happened written text
+      → HasOccurred form settings new r p event happened earlier later
   has_taken more reopened rest is =
       event_taken grid r amid p low event quiet taker its_taker new called gave.world happened
       (subst (λ w. HasStepped settings w called (events_at p r.events) event happened) same_world did) gave.out
@@ -422,7 +424,7 @@ module _ {V : Type 0} {T : V → Type 0} {form : FormOf V T} {settings : Setting
         reopened = reopened ∙ (λ j. (gave.after.reopened ∙ append-nil grid.reopened.items) j ++ is j);
         worlds = ap (λ (g : Grid V T). g.worlds.items) rest ∙ gave.after.worlds;
       })
-      goes written text gave.added
+      goes earlier later gave.added
 
 -- An event that is no reopening reopens nothing.
 pub not_reopened : (p line : ℕ) (e : CodeEvent Request) (outcome : Outcome) → e ≢ code.Reopen → reopening_by p line (event_of e) outcome ≡ []

@@ -1,4 +1,4 @@
--- The grid after each line: it stands for the run after the line, and the line's text was added.
+-- The grid after each line: it stands for the run after it, and what the line tells was added.
 use Rattle.std.proofs.Common.{◌≡◌, ℕ, ◌+◌, ◌*◌, ◌<◌, ◌≤◌, Bool, true, false, not, cond, List, [], ◌++◌, length, drop, map, slice_get, slice_set, Option, Some, None, refl, ap, sym, ◌∙◌, subst, ⊎_elim, append-nil, append_assoc, arith, Vec, Global}
 use Rattle.std.specs.Option.{is_some, option_and_then}
 use Rattle.std.specs.List.{find}
@@ -21,17 +21,17 @@ use Rattle.wait_sets.specs.declared.waiter.Waiter.{Waiter as ListedWaiter}
 use Rattle.partition_protocol.specs.Service.{numbers_below}
 use Rattle.replay_run.specs.WaiterCalls.{IsBetween, HasServed}
 use Rattle.replay_run.specs.AfterLines.{after_line}
-use Rattle.replay_run.specs.Printing.{ok_text, nothing_text, close_text, outcome_text, does_nothing, line_close, line_dump, line_links, line_text, new_messages, line_messages}
+use Rattle.replay_run.specs.Printing.{does_nothing, new_messages}
 use Rattle.replay_run.specs.Skips.{AreOfLine}
 use Rattle.replay_run.specs.ScriptRuns.{line_counted, clock_was_set, connection_opened}
 use Rattle.replay_run.specs.Tables.{Table, most_connections, opened_at, with_opened, with_session}
-use Rattle.replay_run.specs.Grids.{FormOf, GridWorld, HasTable, HasWaiters, IsSettled, IsCounting, IsTally, AreListening, Holds, IsSmall, AreFew, IsBounded, AreReached, Stands, MayRun, HasRun, IsGivenUp, most_arriving}
-use Rattle.replay_run.specs.WorldCalls.{GivesUpSo, texts_of, member_if_open, open_member_in, Brings, HasHandledSome}
+use Rattle.replay_run.specs.Grids.{FormOf, GridWorld, HasTable, HasWaiters, IsSettled, IsCounting, IsTally, AreListening, Holds, IsSmall, AreFew, IsBounded, AreReached, Stands, MayRun, HasRun, HasGiven, IsGivenUp, most_arriving}
+use Rattle.replay_run.specs.WorldCalls.{GivesUpSo, member_if_open, open_member_in, Brings, HasHandledSome}
 use Rattle.replay_run.proofs.Bounds.{stays_small, adds_few, clock_few}
 use Rattle.replay_run.proofs.LineBounds.{line_bounded}
 use Rattle.replay_run.proofs.Items.{items_room}
 use Rattle.replay_run.proofs.Listening.{opened_listening, taken_listening}
-use Rattle.replay_run.proofs.LineTexts.{text_nothing, entries_text, text_with, text_without, new_with}
+use Rattle.replay_run.proofs.LineTexts.{told_nothing, told_with, told_without, new_with}
 use Rattle.replay_run.proofs.Midway.{begun_midway, midway_come, midway_few, unopened_line, unopened_does_nothing, closed_line, closed_does_nothing, open_does_something, ended_line, ended_skips}
 use Rattle.replay_run.proofs.Places.{same_number}
 use Rattle.replay_run.proofs.Reaching.{opened_reached, taken_reached}
@@ -44,6 +44,10 @@ use Rattle.replay_run.proofs.Growing.{served_in_goes}
 use Rattle.replay_run.proofs.Leaving.{HoldsElse, but_lists, forsaken_else, forsaken_open, forsaken_waiters, forsaken_holds, dropped, dropped_lists}
 use Rattle.replay_run.proofs.Serving.{settled_by}
 use Rattle.replay_run.proofs.Turns.{forsaken_keeps}
+use Rattle.replay_run.specs.LineTold.{came_to, all_told, outcome_told, messages_told, close_told, line_closing, line_told}
+use Rattle.line_told.specs.declared.told.LineOutcome.TheVariants.{Ran, Idle}
+use Rattle.line_told.specs.declared.told.Told.{Told}
+use Rattle.line_told.specs.declared.told.Ready.{Ready}
 
 -- the grid once the line of that number is counted
 abbrev pub counted : {V : Type 0} {T : V → Type 0} → Grid V T → ℕ → Grid V T
@@ -107,71 +111,61 @@ same_members grid number line may r s = sym may.stands.holds.members ∙ s.holds
 pub may_run_as : {V : Type 0} {T : V → Type 0} {form : FormOf V T} {grid : Grid V T} {number : ℕ} {line other : Line} → line ≡ other → MayRun form grid number line → MayRun form grid number other
 may_run_as {form = form} {grid = grid} {number = number} same = subst (MayRun form grid number) same
 
-pub has_run_as : {V : Type 0} {T : V → Type 0} {form : FormOf V T} {settings : Settings} {new : Grid V T} {r : Run} {line other : Line} {written text : List ℕ} → line ≡ other → HasRun form settings new r other written text → HasRun form settings new r line written text
-has_run_as {form = form} {settings = settings} {new = new} {r = r} {written = written} {text = text} same = subst (λ l. HasRun form settings new r l written text) (sym same)
+pub has_run_as : {V : Type 0} {T : V → Type 0} {form : FormOf V T} {settings : Settings} {new : Grid V T} {r : Run} {line other : Line} {earlier later : List Told} → line ≡ other → HasRun form settings new r other earlier later → HasRun form settings new r line earlier later
+has_run_as {form = form} {settings = settings} {new = new} {r = r} {earlier = earlier} {later = later} same = subst (λ l. HasRun form settings new r l earlier later) (sym same)
+
+pub has_given_as : {V : Type 0} {T : V → Type 0} {form : FormOf V T} {settings : Settings} {new : Grid V T} {r : Run} {line other : Line} {earlier later : Ready} → line ≡ other → HasGiven form settings new r other earlier later → HasGiven form settings new r line earlier later
+has_given_as {form = form} {settings = settings} {new = new} {r = r} {earlier = earlier} {later = later} same = subst (λ l. HasGiven form settings new r l earlier later) (sym same)
 
 pub stands_as : {V : Type 0} {T : V → Type 0} {form : FormOf V T} {settings : Settings} {new grid : Grid V T} {r : Run} → new ≡ grid → Stands form settings grid r → Stands form settings new r
 stands_as {form = form} {settings = settings} {r = r} same = subst (λ g. Stands form settings g r) (sym same)
-
--- a text in two parts
-pub both_texts : (written outcome entries mid text : List ℕ) → mid ≡ written ++ outcome → text ≡ mid ++ entries → text ≡ written ++ (outcome ++ entries)
-both_texts written outcome entries mid text began is = is ∙ ap (λ xs. xs ++ entries) began ∙ append_assoc written outcome entries
 
 -- a line that brings no call skips none
 no_skips : (settings : Settings) (r : Run) (line : Line) → AreOfLine (partition_object settings) r line []
 no_skips settings r line id there = absurd (in_contains id [] there)
 
--- an outcome that nothing follows
-pub alone : (xs : List ℕ) → xs ++ [] ++ [] ++ [] ≡ xs
-alone xs = append-nil (xs ++ [] ++ []) ∙ append-nil (xs ++ []) ∙ append-nil xs
-
--- or its messages alone
-alone_with : (xs ys : List ℕ) → xs ++ ys ++ [] ++ [] ++ [] ++ [] ≡ xs ++ ys
-alone_with xs ys = append-nil (xs ++ ys ++ [] ++ [] ++ []) ∙ append-nil (xs ++ ys ++ [] ++ []) ∙ append-nil (xs ++ ys ++ []) ∙ append-nil (xs ++ ys)
-
 -- a line that is only counted
 module _ {V : Type 0} {T : V → Type 0} {form : FormOf V T} {settings : Settings} (grid new : Grid V T) (r : Run) (number : ℕ) (line : Line) (s : Stands form settings grid r) (at_line : number ≡ r.lines + 1) (limit : number ≤ most_lines) (after : after_line (partition_object settings) [] r line ≡ next_line r)
-    (made : new ≡ counted grid number) (written text : List ℕ) where
+    (made : new ≡ counted grid number) (earlier later : List Told) where
   stands_after : Stands form settings new (after_line (partition_object settings) [] r line)
   stands_after = subst (λ g. Stands form settings g (after_line (partition_object settings) [] r line)) (sym made) (subst (Stands form settings (counted grid number)) (sym after) (counted_stands grid r number s at_line limit))
 
   -- Its condition is false.
-  pub passed_line : does_nothing (partition_object settings) r line ≡ true → text ≡ written ++ nothing_text number → HasRun form settings new r line written text
+  pub passed_line : does_nothing (partition_object settings) r line ≡ true → later ≡ earlier ++ came_to Idle → HasRun form settings new r line earlier later
   passed_line idle is = record {
     skips = [];
     of_line = no_skips settings r line;
     stands = stands_after;
-    added = is ∙ ap (λ n. written ++ nothing_text n) at_line
-        ∙ ap (λ xs. written ++ xs) (sym (text_nothing settings [] r (after_line (partition_object settings) [] r line) line idle ∙ ap (λ (x : Run). nothing_text x.lines) after));
+    added = is ∙ ap (λ xs. earlier ++ xs) (sym (told_nothing settings [] r (after_line (partition_object settings) [] r line) line idle));
   }
 
-  -- It prints its outcome, and what it dumps, the messages in flight and the entries.
-  pub counted_line : does_nothing (partition_object settings) r line ≡ false → line_messages settings [] r line (next_line r) ≡ texts_of (new_messages r (next_line r)) → line_close (next_line r) line ≡ []
-      → text ≡ written ++ (outcome_text settings r line (next_line r) ++ line_dump (partition_object settings) (next_line r) line ++ line_links settings (next_line r) line ++ entries_text settings r (next_line r) line)
-      → HasRun form settings new r line written text
+  -- It tells its outcome.
+  pub counted_line : does_nothing (partition_object settings) r line ≡ false → messages_told settings [] r line (next_line r) ≡ all_told (new_messages r (next_line r)) → line_closing (next_line r) line ≡ []
+      → later ≡ earlier ++ outcome_told settings r line (next_line r)
+      → HasRun form settings new r line earlier later
   counted_line goes said open_still is = record {
     skips = [];
     of_line = no_skips settings r line;
     stands = stands_after;
-    added = is ∙ ap (λ xs. written ++ xs) (sym (ap (λ (x : Run). line_text settings [] r line x) after ∙ text_without settings [] r (next_line r) line goes said refl open_still));
+    added = is ∙ ap (λ xs. earlier ++ xs) (sym (ap (λ (x : Run). line_told settings [] r line x) after ∙ told_without settings [] r (next_line r) line goes said refl open_still));
   }
 
 -- `open`
 
 -- of a connection that was opened before, or to a member that crashed
-pub unopened : {V : Type 0} {T : V → Type 0} {form : FormOf V T} {settings : Settings} (grid new : Grid V T) (r : Run) (number c member : ℕ) (written text : List ℕ) → Stands form settings grid r → number ≡ r.lines + 1 → number ≤ most_lines → can_open (partition_object settings) r c member ≡ false
-    → new ≡ counted grid number → text ≡ written ++ nothing_text number → HasRun form settings new r (OpenConn c member) written text
-unopened grid new r number c member written text s at_line limit cannot made is =
-    passed_line grid new r number (OpenConn c member) s at_line limit (ap (λ b. cond b (opened r c member) (next_line r)) cannot) made written text (ap not cannot) is
+pub unopened : {V : Type 0} {T : V → Type 0} {form : FormOf V T} {settings : Settings} (grid new : Grid V T) (r : Run) (number c member : ℕ) (earlier later : List Told) → Stands form settings grid r → number ≡ r.lines + 1 → number ≤ most_lines → can_open (partition_object settings) r c member ≡ false
+    → new ≡ counted grid number → later ≡ earlier ++ came_to Idle → HasRun form settings new r (OpenConn c member) earlier later
+unopened grid new r number c member earlier later s at_line limit cannot made is =
+    passed_line grid new r number (OpenConn c member) s at_line limit (ap (λ b. cond b (opened r c member) (next_line r)) cannot) made earlier later (ap not cannot) is
 
-pub opened_line : {V : Type 0} {T : V → Type 0} {form : FormOf V T} {settings : Settings} (grid new : Grid V T) (r : Run) (number c member : ℕ) (written text : List ℕ) → Stands form settings grid r → number ≡ r.lines + 1 → number ≤ most_lines → c < most_connections → member < r.members
+pub opened_line : {V : Type 0} {T : V → Type 0} {form : FormOf V T} {settings : Settings} (grid new : Grid V T) (r : Run) (number c member : ℕ) (earlier later : List Told) → Stands form settings grid r → number ≡ r.lines + 1 → number ≤ most_lines → c < most_connections → member < r.members
     → opened_at grid.connections c ≡ None → can_open (partition_object settings) r c member ≡ true
-    → new ≡ with_table grid number (with_opened grid.connections c member) → text ≡ written ++ ok_text number → HasRun form settings new r (OpenConn c member) written text
-opened_line {form = form} {settings = settings} grid new r number c member written text s at_line limit within there closed can made is = record {
+    → new ≡ with_table grid number (with_opened grid.connections c member) → later ≡ earlier ++ came_to Ran → HasRun form settings new r (OpenConn c member) earlier later
+opened_line {form = form} {settings = settings} grid new r number c member earlier later s at_line limit within there closed can made is = record {
   skips = [];
   of_line = no_skips settings r (OpenConn c member);
   stands = subst (λ g. Stands form settings g (after_line (partition_object settings) [] r (OpenConn c member))) (sym made) (subst (Stands form settings (with_table grid number (with_opened grid.connections c member))) (sym after) stands_opened);
-  added = is ∙ ap (λ n. written ++ ok_text n) at_line ∙ ap (λ xs. written ++ xs) (sym its_text);
+  added = is ∙ ap (λ xs. earlier ++ xs) (sym its_told);
 }
   where
     free : connection_of r c ≡ None
@@ -192,11 +186,10 @@ opened_line {form = form} {settings = settings} grid new r number c member writt
       reached = opened_reached r c member s.reached there;
     }
 
-    its_text : line_text settings [] r (OpenConn c member) (after_line (partition_object settings) [] r (OpenConn c member)) ≡ ok_text (r.lines + 1)
-    its_text =
-        ap (λ (x : Run). line_text settings [] r (OpenConn c member) x) after
-        ∙ text_without settings [] r (opened r c member) (OpenConn c member) (ap not can) refl refl refl
-        ∙ alone (ok_text (r.lines + 1))
+    its_told : line_told settings [] r (OpenConn c member) (after_line (partition_object settings) [] r (OpenConn c member)) ≡ came_to Ran
+    its_told =
+        ap (λ (x : Run). line_told settings [] r (OpenConn c member) x) after
+        ∙ told_without settings [] r (opened r c member) (OpenConn c member) (ap not can) refl refl refl
 
 -- `clock`
 
@@ -262,19 +255,18 @@ module _ {V : Type 0} {T : V → Type 0} {form : FormOf V T} {settings : Setting
     listeners = subst (λ ls. AreListening ls clocked None) (sym set.listeners) (record { size = s.listeners.size; each = s.listeners.each });
   }
 
-  pub clock_line : (last : Grid V T) (written start text : List ℕ) → start ≡ written ++ ok_text number → HasServed form settings new last clocked None (λ skips. served_in (partition_object settings) skips clocked member (numbers_below partitions)) start text
-      → HasRun form settings last r (Clock member moment) written text
-  clock_line last written start text began did =
+  pub clock_line : (last : Grid V T) (earlier start later : List Told) → start ≡ earlier ++ came_to Ran → HasServed form settings new last clocked None (λ skips. served_in (partition_object settings) skips clocked member (numbers_below partitions)) start later
+      → HasRun form settings last r (Clock member moment) earlier later
+  clock_line last earlier start later began did =
       let o = partition_object settings in
       let next = served_in o did.skips clocked member (numbers_below partitions) in
       let kept = served_in_kept o did.skips clocked member (numbers_below partitions) in
       let more = ((served_in_goes o clocked member (numbers_below partitions)).grows did.skips).appended in
       let ms = more.0 in
       let line = Clock member moment in
-      let its_text : line_text settings did.skips r line next ≡ ok_text (r.lines + 1) ++ texts_of ms =
-      text_with settings did.skips r next line ms refl refl (sym more.1)
-      ∙ ap (λ n. ok_text n ++ texts_of ms ++ [] ++ [] ++ [] ++ []) kept.lines
-      ∙ alone_with (ok_text (r.lines + 1)) (texts_of ms) in
+      let its_told : line_told settings did.skips r line next ≡ came_to Ran ++ all_told ms =
+      told_with settings did.skips r next line ms refl refl (sym more.1)
+      ∙ append-nil (came_to Ran ++ all_told ms) in
       record {
         skips = did.skips;
         of_line = did.among;
@@ -289,9 +281,9 @@ module _ {V : Type 0} {T : V → Type 0} {form : FormOf V T} {settings : Setting
           reached = λ c k found. subst (λ m. k.member < m) (sym kept.members) (s.reached c k (ap (find (is_connection c)) (sym kept.connections) ∙ found));
         };
         added =
-            did.added ∙ (λ i. (began ∙ ap (λ n. written ++ ok_text n) at_line) i ++ texts_of (new_with clocked next ms (sym more.1) i))
-            ∙ append_assoc written (ok_text (r.lines + 1)) (texts_of ms)
-            ∙ ap (λ xs. written ++ xs) (sym its_text);
+            did.added ∙ (λ i. began i ++ all_told (new_with clocked next ms (sym more.1) i))
+            ∙ append_assoc earlier (came_to Ran) (all_told ms)
+            ∙ ap (λ xs. earlier ++ xs) (sym its_told);
       }
 
 -- The run is given up at its turns.
@@ -332,11 +324,11 @@ not_open settings r c bytes none = go (connection_of r c) refl none
     go None there e = record { after = unopened_line (partition_object settings) r c bytes [] there; nothing = unopened_does_nothing (partition_object settings) r c bytes there }
     go (Some k) there e = closed k there (takes_bytes (partition_object settings) r k) refl e
 
-pub idle_line : {V : Type 0} {T : V → Type 0} {form : FormOf V T} {settings : Settings} (grid new : Grid V T) (r : Run) (number c : ℕ) (bytes written text : List ℕ) → Stands form settings grid r → number ≡ r.lines + 1 → number ≤ most_lines → open_member_in settings r c ≡ None
-    → new ≡ counted grid number → text ≡ written ++ nothing_text number → HasRun form settings new r (Arrive c bytes) written text
-idle_line {settings = settings} grid new r number c bytes written text s at_line limit none made is =
+pub idle_line : {V : Type 0} {T : V → Type 0} {form : FormOf V T} {settings : Settings} (grid new : Grid V T) (r : Run) (number c : ℕ) (bytes : List ℕ) (earlier later : List Told) → Stands form settings grid r → number ≡ r.lines + 1 → number ≤ most_lines → open_member_in settings r c ≡ None
+    → new ≡ counted grid number → later ≡ earlier ++ came_to Idle → HasRun form settings new r (Arrive c bytes) earlier later
+idle_line {settings = settings} grid new r number c bytes earlier later s at_line limit none made is =
     let idle = not_open settings r c bytes none in
-    passed_line grid new r number (Arrive c bytes) s at_line limit idle.after made written text idle.nothing is
+    passed_line grid new r number (Arrive c bytes) s at_line limit idle.after made earlier later idle.nothing is
 
 -- bytes on an open connection, to a member that lives
 
@@ -366,9 +358,9 @@ is_open settings r c member open_to = go (connection_of r c) refl open_to
     go (Some k) there e = taking k there (takes_bytes (partition_object settings) r k) refl e
 
 -- The line is counted and the connection has its bytes.
-pub begun_some : {V : Type 0} {T : V → Type 0} {form : FormOf V T} {settings : Settings} (grid new : Grid V T) (r : Run) (s : Stands form settings grid r) (number c : ℕ) (k : Connection) → number ≡ r.lines + 1 → connection_of r c ≡ Some k → connection_of r k.conn ≡ Some k → not (is_some (fault_on k)) ≡ true → (bytes text : List ℕ)
-    → new ≡ with_table grid number (with_session grid.connections c (session_after k.conn k.member (k.bytes ++ bytes))) → HasHandledSome form settings new r k bytes [] text text
-begun_some {form = form} {settings = settings} grid new r s number c k at_line there itself open_still bytes text made = record {
+pub begun_some : {V : Type 0} {T : V → Type 0} {form : FormOf V T} {settings : Settings} (grid new : Grid V T) (r : Run) (s : Stands form settings grid r) (number c : ℕ) (k : Connection) → number ≡ r.lines + 1 → connection_of r c ≡ Some k → connection_of r k.conn ≡ Some k → not (is_some (fault_on k)) ≡ true → (bytes : List ℕ) (later : List Told)
+    → new ≡ with_table grid number (with_session grid.connections c (session_after k.conn k.member (k.bytes ++ bytes))) → HasHandledSome form settings new r k bytes [] later later
+begun_some {form = form} {settings = settings} grid new r s number c k at_line there itself open_still bytes later made = record {
   skips = [];
   now = took_bytes r k bytes;
   midway = begun_midway r s.run k itself bytes;
@@ -379,7 +371,7 @@ begun_some {form = form} {settings = settings} grid new r s number c k at_line t
   counting = subst (λ (g : Grid _ _). IsCounting g.connections (took_bytes r k bytes) k.conn (length (messages_on k) + 0)) (sym made)
       (subst (λ n. IsCounting fed (took_bytes r k bytes) n (length (messages_on k) + 0)) (sym (its_number r c k there))
       (subst (λ n. IsCounting fed (took_bytes r k bytes) c n) none_yet (counting_fed grid.connections r s.holds.table c k there bytes s.settled)));
-  added = sym (ap (λ ms. text ++ texts_of ms) (new_with r (took_bytes r k bytes) [] (sym (append-nil r.appended))) ∙ append-nil text);
+  added = sym (ap (λ ms. later ++ all_told ms) (new_with r (took_bytes r k bytes) [] (sym (append-nil r.appended))) ∙ append-nil later);
 }
   where
     fed : Table
@@ -389,7 +381,7 @@ begun_some {form = form} {settings = settings} grid new r s number c k at_line t
     none_yet = omega arith
 
 module _ {V : Type 0} {T : V → Type 0} {form : FormOf V T} {settings : Settings} (r : Run) (c : ℕ) (k : Connection) (there : connection_of r c ≡ Some k) (bytes : List ℕ) (items : List Item) (brings : Brings settings r k bytes items)
-    (handled : Grid V T) (start mid : List ℕ) (did : HasHandledSome form settings handled r k bytes items start mid) where
+    (handled : Grid V T) (start mid : List Told) (did : HasHandledSome form settings handled r k bytes items start mid) where
   -- all items were handled
   all_settled : IsSettled handled.connections did.now
   all_settled d o j at found = ⊎_elim here (λ apart. did.counting.others d o j apart at found) (cases_eq d k.conn)
@@ -480,21 +472,20 @@ module _ {V : Type 0} {T : V → Type 0} {form : FormOf V T} {settings : Setting
     after : after_line (partition_object settings) did.skips r (Arrive c bytes) ≡ closing
     after = ended_line (partition_object settings) r c bytes k there takes items did.skips did.now brings.come did.midway
 
-    abbrev its_parts : List ℕ
-    its_parts = (ok_text (r.lines + 1) ++ texts_of (new_messages r closing)) ++ close_text (r.lines + 1) c (fault_on (with_bytes k bytes))
+    abbrev its_parts : List Told
+    its_parts = (came_to Ran ++ all_told (new_messages r closing)) ++ close_told c (fault_on (with_bytes k bytes))
 
-    text_of : (next : Run) → connection_of next c ≡ Some (with_bytes k bytes) → next.lines ≡ r.lines + 1
-        → line_text settings did.skips r (Arrive c bytes) next ≡ (ok_text (r.lines + 1) ++ texts_of (new_messages r next)) ++ close_text (r.lines + 1) c (fault_on (with_bytes k bytes))
-    text_of next found counted =
-        rw (open_does_something (partition_object settings) r c bytes k there takes, found, counted) (alone ((ok_text (r.lines + 1) ++ texts_of (new_messages r next)) ++ close_text (r.lines + 1) c (fault_on (with_bytes k bytes))))
+    told_by : (next : Run) → connection_of next c ≡ Some (with_bytes k bytes)
+        → line_told settings did.skips r (Arrive c bytes) next ≡ (came_to Ran ++ all_told (new_messages r next)) ++ close_told c (fault_on (with_bytes k bytes))
+    told_by next found = rw (open_does_something (partition_object settings) r c bytes k there takes, found) refl
 
-    its_text : line_text settings did.skips r (Arrive c bytes) closing ≡ its_parts
-    its_text = text_of closing closing_there closing_lines
+    its_told : line_told settings did.skips r (Arrive c bytes) closing ≡ its_parts
+    its_told = told_by closing closing_there
 
-    pub bytes_line : (fault : Option Malformed) (number : ℕ) (written text : List ℕ) (listeners : Vec Listeners Global) (waiters : List (List ListedWaiter)) (new : Grid V T) → new ≡ record handled { listeners = listeners; waiters = waiters } → AreListening listeners.items did.now None → AreLeft waiters → IsSmall r → AreFew r → IsBounded r → AreReached r
-        → 2 * length bytes ≤ most_arriving → start ≡ written ++ ok_text number → number ≡ r.lines + 1 → number ≤ most_lines
-        → fault ≡ fault_on (with_bytes k bytes) → text ≡ mid ++ close_text number c fault → HasRun form settings new r (Arrive c bytes) written text
-    bytes_line fault number written text listeners waiters new made are left small few bounded reached size began at_line limit shown is = record {
+    pub bytes_line : (fault : Option Malformed) (number : ℕ) (earlier later : List Told) (listeners : Vec Listeners Global) (waiters : List (List ListedWaiter)) (new : Grid V T) → new ≡ record handled { listeners = listeners; waiters = waiters } → AreListening listeners.items did.now None → AreLeft waiters → IsSmall r → AreFew r → IsBounded r → AreReached r
+        → 2 * length bytes ≤ most_arriving → start ≡ earlier ++ came_to Ran → number ≡ r.lines + 1 → number ≤ most_lines
+        → fault ≡ fault_on (with_bytes k bytes) → later ≡ mid ++ close_told c fault → HasRun form settings new r (Arrive c bytes) earlier later
+    bytes_line fault number earlier later listeners waiters new made are left small few bounded reached size began at_line limit shown is = record {
       skips = did.skips;
       of_line = ended_skips (partition_object settings) r c bytes k there takes items did.skips did.now brings.come did.midway;
       stands = subst (Stands form settings new) (sym after) (subst (λ g. Stands form settings g closing) (sym made) (record {
@@ -507,16 +498,16 @@ module _ {V : Type 0} {T : V → Type 0} {form : FormOf V T} {settings : Setting
         settled = closing_settled;
         reached = closing_reached reached;
       }));
-      added = is ∙ (λ i. whole i ++ close_text (at_line i) c (shown i)) ∙ grouped
-          ∙ ap (λ xs. written ++ xs) (sym (ap (λ (x : Run). line_text settings did.skips r (Arrive c bytes) x) after ∙ its_text));
+      added = is ∙ (λ i. whole i ++ close_told c (shown i)) ∙ grouped
+          ∙ ap (λ xs. earlier ++ xs) (sym (ap (λ (x : Run). line_told settings did.skips r (Arrive c bytes) x) after ∙ its_told));
     }
       where
-        whole : mid ≡ (written ++ ok_text (r.lines + 1)) ++ texts_of (new_messages r closing)
+        whole : mid ≡ (earlier ++ came_to Ran) ++ all_told (new_messages r closing)
         whole =
-            did.added ∙ ap (λ xs. xs ++ texts_of (new_messages r did.now)) (began ∙ ap (λ n. written ++ ok_text n) at_line)
-            ∙ ap (λ (ms : List Appended). (written ++ ok_text (r.lines + 1)) ++ texts_of (drop (length r.appended) ms)) (sym closing_says)
+            did.added ∙ ap (λ xs. xs ++ all_told (new_messages r did.now)) began
+            ∙ ap (λ (ms : List Appended). (earlier ++ came_to Ran) ++ all_told (drop (length r.appended) ms)) (sym closing_says)
 
-        grouped : ((written ++ ok_text (r.lines + 1)) ++ texts_of (new_messages r closing)) ++ close_text (r.lines + 1) c (fault_on (with_bytes k bytes)) ≡ written ++ its_parts
+        grouped : ((earlier ++ came_to Ran) ++ all_told (new_messages r closing)) ++ close_told c (fault_on (with_bytes k bytes)) ≡ earlier ++ its_parts
         grouped =
-            ap (λ xs. xs ++ close_text (r.lines + 1) c (fault_on (with_bytes k bytes))) (append_assoc written (ok_text (r.lines + 1)) (texts_of (new_messages r closing)))
-            ∙ append_assoc written (ok_text (r.lines + 1) ++ texts_of (new_messages r closing)) (close_text (r.lines + 1) c (fault_on (with_bytes k bytes)))
+            ap (λ xs. xs ++ close_told c (fault_on (with_bytes k bytes))) (append_assoc earlier (came_to Ran) (all_told (new_messages r closing)))
+            ∙ append_assoc earlier (came_to Ran ++ all_told (new_messages r closing)) (close_told c (fault_on (with_bytes k bytes)))

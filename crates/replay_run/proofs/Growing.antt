@@ -34,6 +34,7 @@ use Rattle.replay_run.proofs.Turns.{its_event}
 use Rattle.replay_run.proofs.EventRuns.{flowed_on}
 use Rattle.replay_run.proofs.Rebalanced.{begun_unasked}
 use Rattle.replay_run.proofs.Lines.{registers_come, IsNoCall, events_are_no_calls}
+use Rattle.replay_run.specs.LineTold.{all_told, end_told, ran_told, ran_all_told}
 
 pub record Grows (r next : Run) : Type 0 where
   pub events : IsFrontOf r.events next.events
@@ -381,6 +382,17 @@ module _ (o : Object Request Partition) where
   stepped_all_goes r (step ∷ steps) = goes_then r (λ s. stepped o s r step) (λ x s. stepped_all o s x steps) (stepped_goes r step) (λ x. stepped_all_goes x steps)
 
   -- and what they print is the same where they skip the same
+  pub ran_told_alike : (r : Run) (steps : List Step) (s t : List CallId) → Agree ((stepped_all_goes r steps).tries s) s t → ran_all_told o s r steps ≡ ran_all_told o t r steps
+  unfolding stepped_all_goes goes_then
+  ran_told_alike r [] s t agree = refl
+  ran_told_alike r (step ∷ steps) s t agree =
+      let next = stepped o s r step in
+      let here = (stepped_goes r step).tries s in
+      let later = (stepped_all_goes next steps).tries s in
+      let same : next ≡ stepped o t r step = (stepped_goes r step).alike s t (λ a i. agree a (in_left a here later i)) in
+      (λ i. (all_told (new_messages r (same i)) ++ end_told step.partition (is_moving_at o (same i) step.partition)) ++ ran_all_told o s next steps)
+      ∙ ap (λ xs. ran_told o t r step ++ xs) (ran_told_alike next steps s t (λ a i. agree a (in_right a here later i)) ∙ ap (λ (x : Run). ran_all_told o t x steps) same)
+
   pub ran_alike : (r : Run) (steps : List Step) (s t : List CallId) → Agree ((stepped_all_goes r steps).tries s) s t → ran_texts o s r steps ≡ ran_texts o t r steps
   unfolding stepped_all_goes goes_then
   ran_alike r [] s t agree = refl

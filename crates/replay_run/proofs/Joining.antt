@@ -27,6 +27,7 @@ use Rattle.replay_run.proofs.Places.{same_number}
 use Rattle.replay_run.proofs.Serving.{first_holds, second_holds, counting_by}
 use Rattle.replay_run.proofs.TableCounts.{counting_called}
 use Rattle.replay_run.proofs.Tallies.{waiting_tally}
+use Rattle.line_told.specs.declared.told.Told.{Told}
 
 -- who joins a list is last there
 
@@ -148,9 +149,9 @@ module _ {V : Type 0} {T : V → Type 0} {form : FormOf V T} {settings : Setting
       subst (λ t. IsCounting t (waits r w) request.id.conn (request.id.number + 1)) (sym joined.connections) (record { here = more.here; others = more.others })
 
   -- Then the turns of its list are made.
-  pub has_waited : (after : Grid V T) (written text : List ℕ) → HasServed form settings new after (waits r (waiter_at r member request timeout)) (Some request.id.conn) (by_turns settings (waits r (waiter_at r member request timeout)) (Some request.id.conn) request.partition member) written text
-      → HasHandledCall form settings after r request.id.conn (request.id.number + 1) (by_waiting settings r member request timeout) written text
-  has_waited after written text did =
+  pub has_waited : (after : Grid V T) (earlier later : List Told) → HasServed form settings new after (waits r (waiter_at r member request timeout)) (Some request.id.conn) (by_turns settings (waits r (waiter_at r member request timeout)) (Some request.id.conn) request.partition member) earlier later
+      → HasHandledCall form settings after r request.id.conn (request.id.number + 1) (by_waiting settings r member request timeout) earlier later
+  has_waited after earlier later did =
       let own = Some request.id.conn in
       record {
         skips = did.skips;
@@ -160,11 +161,11 @@ module _ {V : Type 0} {T : V → Type 0} {form : FormOf V T} {settings : Setting
         added = did.added;
       }
 
-  pub wait_handled : {A E : Type 0} (result : Result A E) → AreListening grid.listeners.items r (Some request.id.conn) → (after : Grid V T) (written text : List ℕ)
+  pub wait_handled : {A E : Type 0} (result : Result A E) → AreListening grid.listeners.items r (Some request.id.conn) → (after : Grid V T) (earlier later : List Told)
       → (IsBetween form settings new (waits r (waiter_at r member request timeout)) (Some request.id.conn)
-      → OnOk result (HasServed form settings new after (waits r (waiter_at r member request timeout)) (Some request.id.conn) (by_turns settings (waits r (waiter_at r member request timeout)) (Some request.id.conn) request.partition member) written text))
-      → OnOk result (HasHandledCall form settings after r request.id.conn (request.id.number + 1) (by_waiting settings r member request timeout) written text)
-  wait_handled result are after written text turns = on_ok_weaker result (has_waited after written text) (turns (joined_between (Some request.id.conn) are))
+      → OnOk result (HasServed form settings new after (waits r (waiter_at r member request timeout)) (Some request.id.conn) (by_turns settings (waits r (waiter_at r member request timeout)) (Some request.id.conn) request.partition member) earlier later))
+      → OnOk result (HasHandledCall form settings after r request.id.conn (request.id.number + 1) (by_waiting settings r member request timeout) earlier later)
+  wait_handled result are after earlier later turns = on_ok_weaker result (has_waited after earlier later) (turns (joined_between (Some request.id.conn) are))
 
 -- or one meets a full partition
 pub waiting_full : (settings : Settings) (r : Run) (member : ℕ) (request : Request) (timeout : ℤ) → GivesUpSo (waits r (waiter_at r member request timeout)) (by_turns settings (waits r (waiter_at r member request timeout)) (Some request.id.conn) request.partition member)

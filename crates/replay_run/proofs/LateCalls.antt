@@ -25,7 +25,7 @@ use Rattle.replay_run.specs.ScriptRuns.{IsRun, waiter_asked, waiter_refused, wai
 use Rattle.replay_run.specs.Tables.{opened_at}
 use Rattle.replay_run.specs.Tallies.{received, tallied_later}
 use Rattle.replay_run.specs.Grids.{FormOf, HasTable, IsTally, HasWorld, Holds, AreListening}
-use Rattle.replay_run.specs.WorldCalls.{texts_of, GivesUpSo}
+use Rattle.replay_run.specs.WorldCalls.{GivesUpSo}
 use Rattle.replay_run.specs.WaiterCalls.{IsBetween, handled_count, SameCounts, HasServed, HoldsBut, by_leaving}
 use Rattle.replay_run.proofs.Answering.{refusals_answer_none}
 use Rattle.replay_run.proofs.Arriving.{without_ok, comes_later}
@@ -37,6 +37,8 @@ use Rattle.replay_run.proofs.RunsOfLines.{run_ok}
 use Rattle.replay_run.proofs.TableRuns.{came_ending, table_alike, refusals_table}
 use Rattle.replay_run.proofs.Tallies.{HasTallied, called_so, left_so, ended_tally}
 use Rattle.replay_run.proofs.WorldRuns.{same_events}
+use Rattle.replay_run.specs.LineTold.{all_told}
+use Rattle.line_told.specs.declared.told.Told.{Told}
 
 -- whose call is to be made, leaves so
 made_so : (o : Object Request Partition) (skips : List CallId) (r : Run) (own : Option ℕ) (w : Waiter) (fate : Fate) → is_made fate ≡ true → leaves_so o skips r own w fate ≡ asks o skips (without r w) own (ending r w)
@@ -122,9 +124,9 @@ module _ {V : Type 0} {T : V → Type 0} {form : FormOf V T} {settings : Setting
       (omega (arith, refused, less, all, its_refused), omega (arith, memory, less, all, its_memory))
 
   -- Its plain call was made.
-  pub late_made : (own : Option ℕ) (new : Grid V T) (written text : List ℕ) → is_made (fate_now o r w) ≡ true → is_full (world_at o (without r w) w.request.partition) ≡ false → SameCounts grid.connections new.connections
-      → HasMade form settings new (without r w) own (ending r w) written text → HasServed form settings grid new r own (by_leaving settings r own w) written text
-  late_made own new written text made room counts has =
+  pub late_made : (own : Option ℕ) (new : Grid V T) (earlier later : List Told) → is_made (fate_now o r w) ≡ true → is_full (world_at o (without r w) w.request.partition) ≡ false → SameCounts grid.connections new.connections
+      → HasMade form settings new (without r w) own (ending r w) earlier later → HasServed form settings grid new r own (by_leaving settings r own w) earlier later
+  late_made own new earlier later made room counts has =
       let next = asked o has.skips (without r w) own (ending r w) in
       let same : leaves_so o has.skips r own w (fate_now o r w) ≡ next = made_so o has.skips r own w (fate_now o r w) made ∙ asks_here o has.skips (without r w) own (ending r w) room in
       let come : new_arrivals r next ≡ ending r w ∷ [] = ap (drop (length r.arrivals)) (one_new o has.skips r own w) ∙ drop-append_seam r.arrivals (ending r w ∷ []) in
@@ -134,7 +136,7 @@ module _ {V : Type 0} {T : V → Type 0} {form : FormOf V T} {settings : Setting
             (λ id c. (ending r w, subst (λ xs. Contains xs (ending r w)) (sym come) (contains_in (ending r w) (ending r w ∷ []) (inl refl)), has.its_own id c));
         between = subst (λ (x : Run). IsBetween form settings new x own) (sym same) (record { run = waiter_asked has.skips r own w run there; holds = has.holds; listeners = has.listeners });
         counts = counts;
-        added = has.added ∙ ap (λ (x : Run). written ++ texts_of (new_messages r x)) (sym same);
+        added = has.added ∙ ap (λ (x : Run). earlier ++ all_told (new_messages r x)) (sym same);
       }
 
   -- or meets a full partition
@@ -163,15 +165,15 @@ module _ {V : Type 0} {T : V → Type 0} {form : FormOf V T} {settings : Setting
     worlds = λ p low. worlds_alike (leaves r w) (append-nil r.events) refl refl p (h.worlds p low);
   }
 
-  pub late_left : (own : Option ℕ) (text : List ℕ) → AreListening grid.listeners.items r own → fate_now o r w ≡ Leaves → HasServed form settings grid grid r own (by_leaving settings r own w) text text
-  late_left own text are fate =
+  pub late_left : (own : Option ℕ) (later : List Told) → AreListening grid.listeners.items r own → fate_now o r w ≡ Leaves → HasServed form settings grid grid r own (by_leaving settings r own w) later later
+  late_left own later are fate =
       let same : leaves_so o [] r own w (fate_now o r w) ≡ leaves r w = ap (leaves_so o [] r own w) fate in
       record {
         skips = [];
         among = λ id c. absurd (in_contains id [] c);
         between = subst (λ (x : Run). IsBetween form settings grid x own) (sym same) (record { run = waiter_left r w run there; holds = left_holds; listeners = record { size = are.size; each = are.each } });
         counts = λ c. refl;
-        added = sym (ap (λ (x : Run). text ++ texts_of (new_messages r x)) same ∙ ap (λ ms. text ++ texts_of ms) (new_with r (leaves r w) [] refl) ∙ append-nil text);
+        added = sym (ap (λ (x : Run). later ++ all_told (new_messages r x)) same ∙ ap (λ ms. later ++ all_told ms) (new_with r (leaves r w) [] refl) ∙ append-nil later);
       }
 
   -- It is refused as its plain call would be.
@@ -208,8 +210,8 @@ module _ {V : Type 0} {T : V → Type 0} {form : FormOf V T} {settings : Setting
       worlds = λ p low. worlds_alike refused_run (append-nil r.events) refl refl p (h.worlds p low);
     }
 
-    pub late_refused : (own : Option ℕ) (written text : List ℕ) → AreListening grid.listeners.items r own → fate_now o r w ≡ IsRefused why → text ≡ written ++ texts_of (refused_at r.lines w.request why) → HasServed form settings grid new r own (by_leaving settings r own w) written text
-    late_refused own written text are fate is =
+    pub late_refused : (own : Option ℕ) (earlier later : List Told) → AreListening grid.listeners.items r own → fate_now o r w ≡ IsRefused why → later ≡ earlier ++ all_told (refused_at r.lines w.request why) → HasServed form settings grid new r own (by_leaving settings r own w) earlier later
+    late_refused own earlier later are fate is =
         let same : leaves_so o [] r own w (fate_now o r w) ≡ refused_run = ap (leaves_so o [] r own w) fate in
         record {
           skips = [];
@@ -217,5 +219,5 @@ module _ {V : Type 0} {T : V → Type 0} {form : FormOf V T} {settings : Setting
           between = subst (λ (x : Run). IsBetween form settings new x own) (sym same)
               (subst (λ g. IsBetween form settings g refused_run own) (sym made) (record { run = waiter_refused r w why run there; holds = refused_holds; listeners = record { size = are.size; each = are.each } }));
           counts = λ c. ap (λ (g : Grid V T). option_map handled_count (opened_at g.connections c)) made;
-          added = is ∙ ap (λ ms. written ++ texts_of ms) (sym (new_with r refused_run (refused_at r.lines w.request why) refl)) ∙ ap (λ (x : Run). written ++ texts_of (new_messages r x)) (sym same);
+          added = is ∙ ap (λ ms. earlier ++ all_told ms) (sym (new_with r refused_run (refused_at r.lines w.request why) refl)) ∙ ap (λ (x : Run). earlier ++ all_told (new_messages r x)) (sym same);
         }

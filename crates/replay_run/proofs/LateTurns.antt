@@ -25,7 +25,7 @@ use Rattle.replay_run.specs.Shelves.{grid_meaning}
 use Rattle.replay_run.specs.Tables.{Table, opened_at}
 use Rattle.replay_run.specs.Tallies.{received, tallied_later}
 use Rattle.replay_run.specs.Grids.{FormOf, GridWorld, StandsForEvents, IsWorld, Holds}
-use Rattle.replay_run.specs.WorldCalls.{GivesUpSo, HasRoomAt, IsAppended, arrival_to, going_out, texts_of}
+use Rattle.replay_run.specs.WorldCalls.{GivesUpSo, HasRoomAt, IsAppended, arrival_to, going_out}
 use Rattle.replay_run.specs.WaiterCalls.{handled_count, SameCounts, HasServed, MayLeave, by_leaving}
 use Rattle.replay_run.proofs.Arriving.{without_ok, comes_later}
 use Rattle.replay_run.proofs.Asking.{world_within, world_there, world_is, moment_within, moment_there, named_late, told_of}
@@ -36,6 +36,8 @@ use Rattle.replay_run.proofs.LateCalls.{late_run, late_holds, late_apart, late_t
 use Rattle.replay_run.proofs.MadeCalls.{Became, came_so, made_grid}
 use Rattle.replay_run.proofs.RunsOfLines.{run_ok}
 use Rattle.replay_run.proofs.Serving.{counts_answers}
+use Rattle.replay_run.specs.LineTold.{all_told}
+use Rattle.line_told.specs.declared.told.Told.{Told}
 
 -- the waiter by the request and the member that the code has
 abbrev pub as_coded : Waiter → ℕ → Request → Waiter
@@ -111,22 +113,22 @@ module _ {V : Type 0} {T : V → Type 0} {form : FormOf V T} {settings : Setting
 
   -- Its partition isn't full, and it reached its world, which then gave out all that waited there.
   module _ (new : Grid V T) (old called world : GridWorld) (there : slice_get grid.worlds.items request.partition ≡ Some old) (line now known : ℕ) (at_line : line ≡ r.lines) (at_moment : now ≡ moment_of r at.member)
-      (knew : known ≡ version_known (world_at (partition_object settings) r request.partition) at.member) (reception : Reception) (added written mid text : List ℕ)
+      (knew : known ≡ version_known (world_at (partition_object settings) r request.partition) at.member) (reception : Reception) (added earlier mid later : List Told)
       (after : IsAfter grid new line request.partition grid.connections world (going_out r own (waiting called at.member))) (counted : new.tally ≡ tallied_later reception grid.tally)
-      (out : HasGivenOut settings called world at.member) (began : mid ≡ written ++ added)
-      (wrote : (events : List (Event Request)) → IsAppended (grid_meaning settings) KeepsAll RequestFits called events (record { line = line; partition = at.partition; member = at.member; known = known; own = own }) r (listening r own at.member) mid text)
+      (out : HasGivenOut settings called world at.member) (began : mid ≡ earlier ++ added)
+      (wrote : (events : List (Event Request)) → IsAppended (grid_meaning settings) KeepsAll RequestFits called events (record { line = line; partition = at.partition; member = at.member; known = known; own = own }) r (listening r own at.member) mid later)
       (did : Became settings old called (events_at request.partition r.events) (arrival_to line at.member now request) added reception) where
-    made_late : HasMade form settings new (without r its) own (ending r its) written text
+    made_late : HasMade form settings new (without r its) own (ending r its) earlier later
     made_late =
         let m = coded_may in
         let o = partition_object settings in
         let ok = run_ok m.run in
         let i = in_contains its r.waiters m.there in
         made_grid grid (without r its) (without_ok o r its ok) (late_apart grid r its m.run m.there m.holds) own (ending r its) (comes_later o r its ok i)
-        (record { size = m.listeners.size; each = m.listeners.each }) coded_low grid.connections (late_table grid r its m.run m.there m.holds) new old called world there known knew reception added written text
+        (record { size = m.listeners.size; each = m.listeners.each }) coded_low grid.connections (late_table grid r its m.run m.there m.holds) new old called world there known knew reception added earlier later
         (subst (λ l. IsAfter grid new l request.partition grid.connections world (going_out r own (waiting called at.member))) at_line after) out
-        (call_said settings called (without r its) own (ending r its) line known (sym at_line) written added mid text began
-        (λ events. subst (λ q. IsAppended (grid_meaning settings) KeepsAll RequestFits called events (record { line = line; partition = q; member = at.member; known = known; own = own }) r (listening r own at.member) mid text) (sym m.partition) (wrote events)))
+        (call_said settings called (without r its) own (ending r its) line known (sym at_line) earlier added mid later began
+        (λ events. subst (λ q. IsAppended (grid_meaning settings) KeepsAll RequestFits called events (record { line = line; partition = q; member = at.member; known = known; own = own }) r (listening r own at.member) mid later) (sym m.partition) (wrote events)))
         (late_tally grid r its m.run m.there m.holds new.tally reception counted) m.holds.tally.refused m.holds.tally.memory
         (came_so settings (ending r its) line at.member now request at_line refl at_moment refl old called (events_at request.partition r.events) added reception did)
 
@@ -134,11 +136,11 @@ module _ {V : Type 0} {T : V → Type 0} {form : FormOf V T} {settings : Setting
     same_counts : SameCounts grid.connections new.connections
     same_counts c = ap (λ (t : Table). option_map handled_count (opened_at t c)) after.answered ∙ counts_answers line (going_out r own (waiting called at.member)) grid.connections c
 
-    pub late_grid : is_full (world_at (partition_object settings) r request.partition) ≡ false → HasServed form settings grid new r own (by_leaving settings r own w) written text
+    pub late_grid : is_full (world_at (partition_object settings) r request.partition) ≡ false → HasServed form settings grid new r own (by_leaving settings r own w) earlier later
     late_grid goes =
         let m = coded_may in
-        subst (λ v. HasServed form settings grid new r own (by_leaving settings r own v) written text) coded_same
-        (late_made grid r its m.run m.there m.holds own new written text m.turns.1 goes same_counts made_late)
+        subst (λ v. HasServed form settings grid new r own (by_leaving settings r own v) earlier later) coded_same
+        (late_made grid r its m.run m.there m.holds own new earlier later m.turns.1 goes same_counts made_late)
 
   -- or it meets its partition full
   pub late_met : is_full (world_at (partition_object settings) r request.partition) ≡ true → GivesUpSo r (by_leaving settings r own w)
@@ -154,14 +156,14 @@ tells_refusal line request (WrongTarget version) = refl
 tells_refusal line request (Migrating version) = refl
 
 module _ {V : Type 0} {T : V → Type 0} {form : FormOf V T} {settings : Settings} (grid : Grid V T) (r : Run) (own : Option ℕ) (at : Spot) (request : Request) (w : Waiter) where
-  pub refusal_served : (why : PartitionRefused) → MayLeave form settings grid r at own (Refusal request why) w → (new : Grid V T) (written text : List ℕ) → new ≡ record grid { tally = tallied_later WasRefused grid.tally }
-      → text ≡ written ++ texts_of (refused_at grid.lines request (refused_as why)) → HasServed form settings grid new r own (by_leaving settings r own w) written text
-  refusal_served why may new written text made is =
-      late_refused grid r w may.run may.there may.holds (refused_as why) WasRefused (tells_refusal r.lines w.request why) new (tallied_later WasRefused grid.tally) made refl own written text may.listeners may.turns.1
-      (is ∙ (λ i. written ++ texts_of (refused_at (may.holds.lines i) (may.turns.0 i) (refused_as why))))
+  pub refusal_served : (why : PartitionRefused) → MayLeave form settings grid r at own (Refusal request why) w → (new : Grid V T) (earlier later : List Told) → new ≡ record grid { tally = tallied_later WasRefused grid.tally }
+      → later ≡ earlier ++ all_told (refused_at grid.lines request (refused_as why)) → HasServed form settings grid new r own (by_leaving settings r own w) earlier later
+  refusal_served why may new earlier later made is =
+      late_refused grid r w may.run may.there may.holds (refused_as why) WasRefused (tells_refusal r.lines w.request why) new (tallied_later WasRefused grid.tally) made refl own earlier later may.listeners may.turns.1
+      (is ∙ (λ i. earlier ++ all_told (refused_at (may.holds.lines i) (may.turns.0 i) (refused_as why))))
 
-  pub silence_served : MayLeave form settings grid r at own (Silence request) w → (text : List ℕ) → HasServed form settings grid grid r own (by_leaving settings r own w) text text
-  silence_served may text = late_left grid r w may.run may.there may.holds own text may.listeners may.turns.1
+  pub silence_served : MayLeave form settings grid r at own (Silence request) w → (later : List Told) → HasServed form settings grid grid r own (by_leaving settings r own w) later later
+  silence_served may later = late_left grid r w may.run may.there may.holds own later may.listeners may.turns.1
 
   -- More calls came than were refused.
   pub refusal_few : (why : PartitionRefused) → MayLeave form settings grid r at own (Refusal request why) w → (grid.tally.refused < grid.tally.arrived) × (grid.tally.memory < grid.tally.arrived)

@@ -80,6 +80,7 @@ pub mod EventLines
 pub mod LineEnds
 pub mod RebalanceLine
 pub mod LineCases
+pub mod PrintedLines
 pub mod Tallies
 pub mod AnswerMarks
 pub mod EntryCounts

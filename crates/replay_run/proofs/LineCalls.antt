@@ -23,11 +23,13 @@ use Rattle.session_core.specs.declared.item.Item.{Item}
 use Rattle.session_core.specs.declared.item.Item.TheVariants.{Call as Asks, Wait, Register, Reply}
 use Rattle.replay_run.specs.Grids.{FormOf, IsCounting, AreListening, AreFew}
 use Rattle.replay_run.specs.WaiterCalls.{IsBetween, HasHandledCall, by_call, by_waiting}
-use Rattle.replay_run.specs.WorldCalls.{Onward, GivesUpSo, texts_of, IsTo, HasRegistered, HasTold, HasCallRoom, HasRoom, Brings, HasHandledSome, IsGivenUpMidway}
+use Rattle.replay_run.specs.WorldCalls.{Onward, GivesUpSo, IsTo, HasRegistered, HasTold, HasCallRoom, HasRoom, Brings, HasHandledSome, IsGivenUpMidway}
 use Rattle.replay_run.proofs.Items.{IsNamed, IsNumbered}
 use Rattle.replay_run.proofs.Lines.{HasCome, told_come, registers_come, handled_come, may_calls, may_begin, calls_run, begins_run}
-use Rattle.replay_run.proofs.LineTexts.{new_with, texts_more}
+use Rattle.replay_run.proofs.LineTexts.{new_with, told_more}
 use Rattle.replay_run.proofs.Midway.{midway_come, midway_calls, midway_few, its_name, next_midway, item_midway, full_midway, own_midway, told_midway, registered_midway}
+use Rattle.replay_run.specs.LineTold.{all_told}
+use Rattle.line_told.specs.declared.told.Told.{Told}
 
 map_same : {X : Type 0} (xs : List X) → map (λ (x : X). x) xs ≡ xs
 map_same [] = refl
@@ -57,7 +59,7 @@ module _ {X Z : Type 0} (s : IntoIter X Z) (all : List X) (items : into_iter_ite
 
 -- One item more: its messages stand behind those of the items before it.
 module _ {V : Type 0} {T : V → Type 0} {form : FormOf V T} {settings : Settings} (grid : Grid V T) (r : Run) (k : Connection) (bytes : List ℕ) (done : List Item) (item : Item) (rest : List Item) (brings : Brings settings r k bytes (done ++ item ∷ rest))
-    (written mid : List ℕ) (so_far : HasHandledSome form settings grid r k bytes done written mid) where
+    (earlier mid : List Told) (so_far : HasHandledSome form settings grid r k bytes done earlier mid) where
   number_more : (length (messages_on k) + length done) + 1 ≡ length (messages_on k) + length (done ++ item ∷ [])
   number_more = let parts = length-append done (item ∷ []) in omega (arith, parts)
 
@@ -73,31 +75,31 @@ module _ {V : Type 0} {T : V → Type 0} {form : FormOf V T} {settings : Setting
   pub to_now : IsTo so_far.now k.conn k.member
   to_now = record { connection = with_bytes k bytes; there = so_far.midway.may.there; to = refl }
 
-  text_more : (next : Run) (come : ℕ) (text : List ℕ) → HasCome so_far.now come next → text ≡ mid ++ texts_of (new_messages so_far.now next) → text ≡ written ++ texts_of (new_messages r next)
-  text_more next come text has is =
+  more_added : (next : Run) (come : ℕ) (later : List Told) → HasCome so_far.now come next → later ≡ mid ++ all_told (new_messages so_far.now next) → later ≡ earlier ++ all_told (new_messages r next)
+  more_added next come later has is =
       let before = midway_come r brings.run k brings.there bytes done so_far.skips so_far.now so_far.midway in
       let grown = sym has.appended.1 in
-      is ∙ ap (λ xs. xs ++ texts_of (new_messages so_far.now next)) so_far.added
-      ∙ append_assoc written (texts_of (new_messages r so_far.now)) (texts_of (new_messages so_far.now next))
-      ∙ ap (λ ms. written ++ (texts_of (new_messages r so_far.now) ++ texts_of ms)) (new_with so_far.now next has.appended.0 grown)
-      ∙ ap (λ xs. written ++ xs) (sym (texts_more r so_far.now next has.appended.0 before.appended grown))
+      is ∙ ap (λ xs. xs ++ all_told (new_messages so_far.now next)) so_far.added
+      ∙ append_assoc earlier (all_told (new_messages r so_far.now)) (all_told (new_messages so_far.now next))
+      ∙ ap (λ ms. earlier ++ (all_told (new_messages r so_far.now) ++ all_told ms)) (new_with so_far.now next has.appended.0 grown)
+      ∙ ap (λ xs. earlier ++ xs) (sym (told_more r so_far.now next has.appended.0 before.appended grown))
 
 -- the same of other items, and of the connection by its number or its member
 
 pub given_up_as : {settings : Settings} {r : Run} {k : Connection} {bytes : List ℕ} {items others : List Item} → items ≡ others → IsGivenUpMidway settings r k bytes others → IsGivenUpMidway settings r k bytes items
 given_up_as {settings = settings} {r = r} {k = k} {bytes = bytes} same = subst (IsGivenUpMidway settings r k bytes) (sym same)
 
-pub handled_as : {V : Type 0} {T : V → Type 0} {form : FormOf V T} {settings : Settings} {grid : Grid V T} {r : Run} {k : Connection} {bytes : List ℕ} {done others : List Item} {written text : List ℕ} → done ≡ others
-    → HasHandledSome form settings grid r k bytes others written text → HasHandledSome form settings grid r k bytes done written text
-handled_as {form = form} {settings = settings} {grid = grid} {r = r} {k = k} {bytes = bytes} {written = written} {text = text} same = subst (λ items. HasHandledSome form settings grid r k bytes items written text) (sym same)
+pub handled_as : {V : Type 0} {T : V → Type 0} {form : FormOf V T} {settings : Settings} {grid : Grid V T} {r : Run} {k : Connection} {bytes : List ℕ} {done others : List Item} {earlier later : List Told} → done ≡ others
+    → HasHandledSome form settings grid r k bytes others earlier later → HasHandledSome form settings grid r k bytes done earlier later
+handled_as {form = form} {settings = settings} {grid = grid} {r = r} {k = k} {bytes = bytes} {earlier = earlier} {later = later} same = subst (λ items. HasHandledSome form settings grid r k bytes items earlier later) (sym same)
 
-pub told_on : {V : Type 0} {T : V → Type 0} {form : FormOf V T} {settings : Settings} {new : Grid V T} {r : Run} {conn other number : ℕ} {answer written text : List ℕ} → conn ≡ other
-    → HasTold form settings new r other number answer written text → HasTold form settings new r conn number answer written text
-told_on {form = form} {settings = settings} {new = new} {r = r} {number = number} {answer = answer} {written = written} {text = text} same = subst (λ n. HasTold form settings new r n number answer written text) (sym same)
+pub told_on : {V : Type 0} {T : V → Type 0} {form : FormOf V T} {settings : Settings} {new : Grid V T} {r : Run} {conn other number : ℕ} {answer : List ℕ} {earlier later : List Told} → conn ≡ other
+    → HasTold form settings new r other number answer earlier later → HasTold form settings new r conn number answer earlier later
+told_on {form = form} {settings = settings} {new = new} {r = r} {number = number} {answer = answer} {earlier = earlier} {later = later} same = subst (λ n. HasTold form settings new r n number answer earlier later) (sym same)
 
-pub told_with : {V : Type 0} {T : V → Type 0} {form : FormOf V T} {settings : Settings} {new : Grid V T} {r : Run} {conn number : ℕ} {answer other written text : List ℕ} → other ≡ answer
-    → HasTold form settings new r conn number other written text → HasTold form settings new r conn number answer written text
-told_with {form = form} {settings = settings} {new = new} {r = r} {conn = conn} {number = number} {written = written} {text = text} same = subst (λ a. HasTold form settings new r conn number a written text) same
+pub told_with : {V : Type 0} {T : V → Type 0} {form : FormOf V T} {settings : Settings} {new : Grid V T} {r : Run} {conn number : ℕ} {answer other : List ℕ} {earlier later : List Told} → other ≡ answer
+    → HasTold form settings new r conn number other earlier later → HasTold form settings new r conn number answer earlier later
+told_with {form = form} {settings = settings} {new = new} {r = r} {conn = conn} {number = number} {earlier = earlier} {later = later} same = subst (λ a. HasTold form settings new r conn number a earlier later) same
 
 pub on_ok_then : {A E : Type 0} (result : Result A E) (P Q : Type 0) → (P → Q) → OnOk result P → OnOk result Q
 on_ok_then (Ok x) P Q f p = f p
@@ -105,31 +107,31 @@ on_ok_then (Err why) P Q f p = tt
 
 -- an answer of its session
 pub told_one_more : {V : Type 0} {T : V → Type 0} {form : FormOf V T} {settings : Settings} (grid : Grid V T) (r : Run) (k : Connection) (bytes : List ℕ) (done : List Item) (answer : List ℕ) (rest : List Item) → Brings settings r k bytes (done ++ Reply answer ∷ rest)
-    → (written mid : List ℕ) (so_far : HasHandledSome form settings grid r k bytes done written mid) (new : Grid V T) (text : List ℕ)
-    → HasTold form settings new so_far.now k.conn (length (messages_on k) + length done) answer mid text → HasHandledSome form settings new r k bytes (done ++ Reply answer ∷ []) written text
-told_one_more grid r k bytes done answer rest brings written mid so_far new text did = record {
+    → (earlier mid : List Told) (so_far : HasHandledSome form settings grid r k bytes done earlier mid) (new : Grid V T) (later : List Told)
+    → HasTold form settings new so_far.now k.conn (length (messages_on k) + length done) answer mid later → HasHandledSome form settings new r k bytes (done ++ Reply answer ∷ []) earlier later
+told_one_more grid r k bytes done answer rest brings earlier mid so_far new later did = record {
   skips = so_far.skips;
   now = told so_far.now k.conn answer;
   midway = told_midway r brings.run k brings.there bytes done answer rest brings.come so_far.skips so_far.now so_far.midway;
   holds = did.holds;
   listeners = did.listeners;
-  counting = subst (λ n. IsCounting new.connections (told so_far.now k.conn answer) k.conn n) (number_more grid r k bytes done (Reply answer) rest brings written mid so_far) did.counting;
-  added = text_more grid r k bytes done (Reply answer) rest brings written mid so_far (told so_far.now k.conn answer) 0 text (told_come so_far.now k.conn answer) did.added;
+  counting = subst (λ n. IsCounting new.connections (told so_far.now k.conn answer) k.conn n) (number_more grid r k bytes done (Reply answer) rest brings earlier mid so_far) did.counting;
+  added = more_added grid r k bytes done (Reply answer) rest brings earlier mid so_far (told so_far.now k.conn answer) 0 later (told_come so_far.now k.conn answer) did.added;
 }
 
 -- a registration
-pub registered_on : {V : Type 0} {T : V → Type 0} {form : FormOf V T} {settings : Settings} {new : Grid V T} {r : Run} {conn c member m number : ℕ} {registration : Registration} {written text : List ℕ} → conn ≡ c → member ≡ m
-    → HasRegistered form settings new r c m number registration written text → HasRegistered form settings new r conn member number registration written text
-registered_on {form = form} {settings = settings} {new = new} {r = r} {c = c} {member = member} {number = number} {registration = registration} {written = written} {text = text} conns members did =
-    subst (λ n. HasRegistered form settings new r n member number registration written text) (sym conns) (subst (λ n. HasRegistered form settings new r c n number registration written text) (sym members) did)
+pub registered_on : {V : Type 0} {T : V → Type 0} {form : FormOf V T} {settings : Settings} {new : Grid V T} {r : Run} {conn c member m number : ℕ} {registration : Registration} {earlier later : List Told} → conn ≡ c → member ≡ m
+    → HasRegistered form settings new r c m number registration earlier later → HasRegistered form settings new r conn member number registration earlier later
+registered_on {form = form} {settings = settings} {new = new} {r = r} {c = c} {member = member} {number = number} {registration = registration} {earlier = earlier} {later = later} conns members did =
+    subst (λ n. HasRegistered form settings new r n member number registration earlier later) (sym conns) (subst (λ n. HasRegistered form settings new r c n number registration earlier later) (sym members) did)
 
 pub to_as : {r : Run} {conn c member m : ℕ} → c ≡ conn → m ≡ member → IsTo r c m → IsTo r conn member
 to_as {r = r} {conn = conn} {c = c} {member = member} {m = m} conns members to = subst (λ n. IsTo r n member) conns (subst (λ n. IsTo r c n) members to)
 
 pub registered_one_more : {V : Type 0} {T : V → Type 0} {form : FormOf V T} {settings : Settings} (grid : Grid V T) (r : Run) (k : Connection) (bytes : List ℕ) (done : List Item) (registration : Registration) (rest : List Item) → Brings settings r k bytes (done ++ Register registration ∷ rest)
-    → (written mid : List ℕ) (so_far : HasHandledSome form settings grid r k bytes done written mid) (new : Grid V T) (text : List ℕ)
-    → HasRegistered form settings new so_far.now k.conn k.member (length (messages_on k) + length done) registration mid text → HasHandledSome form settings new r k bytes (done ++ Register registration ∷ []) written text
-registered_one_more {settings = settings} grid r k bytes done registration rest brings written mid so_far new text did =
+    → (earlier mid : List Told) (so_far : HasHandledSome form settings grid r k bytes done earlier mid) (new : Grid V T) (later : List Told)
+    → HasRegistered form settings new so_far.now k.conn k.member (length (messages_on k) + length done) registration mid later → HasHandledSome form settings new r k bytes (done ++ Register registration ∷ []) earlier later
+registered_one_more {settings = settings} grid r k bytes done registration rest brings earlier mid so_far new later did =
     let o = partition_object settings in
     let next = registers o so_far.now k.conn k.member registration in
     record {
@@ -138,8 +140,8 @@ registered_one_more {settings = settings} grid r k bytes done registration rest 
       midway = registered_midway r brings.run k brings.there bytes done registration rest brings.come so_far.skips so_far.now so_far.midway;
       holds = did.holds;
       listeners = did.listeners;
-      counting = subst (λ n. IsCounting new.connections next k.conn n) (number_more grid r k bytes done (Register registration) rest brings written mid so_far) did.counting;
-      added = text_more grid r k bytes done (Register registration) rest brings written mid so_far next 0 text (registers_come o so_far.now k.conn k.member registration) did.added;
+      counting = subst (λ n. IsCounting new.connections next k.conn n) (number_more grid r k bytes done (Register registration) rest brings earlier mid so_far) did.counting;
+      added = more_added grid r k bytes done (Register registration) rest brings earlier mid so_far next 0 later (registers_come o so_far.now k.conn k.member registration) did.added;
     }
 
 -- a call, waiting or not
@@ -153,7 +155,7 @@ pub record MayHandleNext {V : Type 0} {T : V → Type 0} (form : FormOf V T) (gr
 
 module _ {V : Type 0} {T : V → Type 0} {form : FormOf V T} {settings : Settings} (grid : Grid V T) (r : Run) (k : Connection) (bytes : List ℕ) (done : List Item) (item : Item) (q : Request)
     (named : IsNumbered (record { conn = k.conn; number = length (messages_on k) + length done }) item ≡ IsNamed (record { conn = k.conn; number = length (messages_on k) + length done }) q)
-    (rest : List Item) (brings : Brings settings r k bytes (done ++ item ∷ rest)) (written mid : List ℕ) (so_far : HasHandledSome form settings grid r k bytes done written mid) where
+    (rest : List Item) (brings : Brings settings r k bytes (done ++ item ∷ rest)) (earlier mid : List Told) (so_far : HasHandledSome form settings grid r k bytes done earlier mid) where
   abbrev o : Object Request Partition
   o = partition_object settings
 
@@ -192,7 +194,7 @@ module _ {V : Type 0} {T : V → Type 0} {form : FormOf V T} {settings : Setting
   may_handle fits room few member to = record {
     fits = fits;
     placed = next_placed;
-    reached = subst (λ m. m < grid.members) to (reached_now grid r k bytes done item rest brings written mid so_far);
+    reached = subst (λ m. m < grid.members) to (reached_now grid r k bytes done item rest brings earlier mid so_far);
     stands = (settings, so_far.now, next_between, next_call, next_room room, next_few few, next_count);
   }
 
@@ -201,18 +203,18 @@ module _ {V : Type 0} {T : V → Type 0} {form : FormOf V T} {settings : Setting
     come_by : (skips : List CallId) → HasCome so_far.now (length (calls_in (item ∷ []))) (onward skips)
     come_by skips = subst (HasCome so_far.now (length (calls_in (item ∷ [])))) (sym (made skips)) (handled_come o skips so_far.now k item)
 
-    pub call_one_more : (new : Grid V T) (text : List ℕ) (did : HasHandledCall form settings new so_far.now q.id.conn (q.id.number + 1) onward mid text)
-        → MayAsk (onward did.skips) (with_bytes k bytes) (length (messages_on k) + length done + 1) → HasHandledSome form settings new r k bytes (done ++ item ∷ []) written text
-    call_one_more new text did may = record {
+    pub call_one_more : (new : Grid V T) (later : List Told) (did : HasHandledCall form settings new so_far.now q.id.conn (q.id.number + 1) onward mid later)
+        → MayAsk (onward did.skips) (with_bytes k bytes) (length (messages_on k) + length done + 1) → HasHandledSome form settings new r k bytes (done ++ item ∷ []) earlier later
+    call_one_more new later did may = record {
       skips = so_far.skips ++ did.skips;
       now = onward did.skips;
       midway = item_midway r brings.run k brings.there bytes done item rest brings.come so_far.skips so_far.now so_far.midway did.skips (onward did.skips) (made did.skips) did.between.run did.among may;
       holds = did.between.holds;
       listeners = subst (λ (id : CallId). AreListening new.listeners.items (onward did.skips) (Some id.conn)) name did.between.listeners;
       counting =
-          subst (λ n. IsCounting new.connections (onward did.skips) k.conn n) (number_more grid r k bytes done item rest brings written mid so_far)
+          subst (λ n. IsCounting new.connections (onward did.skips) k.conn n) (number_more grid r k bytes done item rest brings earlier mid so_far)
           (subst (λ (id : CallId). IsCounting new.connections (onward did.skips) id.conn (id.number + 1)) name did.counting);
-      added = text_more grid r k bytes done item rest brings written mid so_far (onward did.skips) (length (calls_in (item ∷ []))) text (come_by did.skips) did.added;
+      added = more_added grid r k bytes done item rest brings earlier mid so_far (onward did.skips) (length (calls_in (item ∷ []))) later (come_by did.skips) did.added;
     }
 
     -- The run is given up at it.
@@ -225,41 +227,41 @@ module _ {V : Type 0} {T : V → Type 0} {form : FormOf V T} {settings : Setting
 
 -- a call that is made at once
 module _ {V : Type 0} {T : V → Type 0} {form : FormOf V T} {settings : Settings} (grid : Grid V T) (r : Run) (k : Connection) (bytes : List ℕ) (done : List Item) (q : Request) (rest : List Item) (brings : Brings settings r k bytes (done ++ Asks q ∷ rest))
-    (written mid : List ℕ) (so_far : HasHandledSome form settings grid r k bytes done written mid) (member : ℕ) (to : k.member ≡ member) where
+    (earlier mid : List Told) (so_far : HasHandledSome form settings grid r k bytes done earlier mid) (member : ℕ) (to : k.member ≡ member) where
   asked_so : (skips : List CallId) → by_call settings so_far.now member q skips ≡ handled (partition_object settings) skips so_far.now k (Asks q)
   asked_so skips = ap (λ m. calls (partition_object settings) skips so_far.now m q) (sym to)
 
   pub may_ask : HasRoom r k bytes → AreFew r → MayHandleNext form grid member q
   may_ask room few =
-      may_handle grid r k bytes done (Asks q) q refl rest brings written mid so_far (brings.fit q (contains_in (Asks q) (done ++ Asks q ∷ rest) (in_right (Asks q) done (Asks q ∷ rest) (inl refl)))) room few member to
+      may_handle grid r k bytes done (Asks q) q refl rest brings earlier mid so_far (brings.fit q (contains_in (Asks q) (done ++ Asks q ∷ rest) (in_right (Asks q) done (Asks q ∷ rest) (inl refl)))) room few member to
 
-  pub asked_one_more : (new : Grid V T) (text : List ℕ) → HasHandledCall form settings new so_far.now q.id.conn (q.id.number + 1) (by_call settings so_far.now member q) mid text → HasHandledSome form settings new r k bytes (done ++ Asks q ∷ []) written text
-  asked_one_more new text did =
-      call_one_more grid r k bytes done (Asks q) q refl rest brings written mid so_far (by_call settings so_far.now member q) asked_so new text did
-      (may_calls so_far.now (with_bytes k bytes) (length (messages_on k) + length done) q so_far.midway.may (name grid r k bytes done (Asks q) q refl rest brings written mid so_far) (partition_object settings) did.skips member)
+  pub asked_one_more : (new : Grid V T) (later : List Told) → HasHandledCall form settings new so_far.now q.id.conn (q.id.number + 1) (by_call settings so_far.now member q) mid later → HasHandledSome form settings new r k bytes (done ++ Asks q ∷ []) earlier later
+  asked_one_more new later did =
+      call_one_more grid r k bytes done (Asks q) q refl rest brings earlier mid so_far (by_call settings so_far.now member q) asked_so new later did
+      (may_calls so_far.now (with_bytes k bytes) (length (messages_on k) + length done) q so_far.midway.may (name grid r k bytes done (Asks q) q refl rest brings earlier mid so_far) (partition_object settings) did.skips member)
 
   pub asked_full : GivesUpSo so_far.now (by_call settings so_far.now member q) → IsGivenUpMidway settings r k bytes (done ++ Asks q ∷ rest)
   asked_full up =
-      call_given_up grid r k bytes done (Asks q) q refl rest brings written mid so_far (by_call settings so_far.now member q) asked_so up
-      (calls_run up.skips so_far.now member q so_far.midway.run (next_call grid r k bytes done (Asks q) q refl rest brings written mid so_far))
+      call_given_up grid r k bytes done (Asks q) q refl rest brings earlier mid so_far (by_call settings so_far.now member q) asked_so up
+      (calls_run up.skips so_far.now member q so_far.midway.run (next_call grid r k bytes done (Asks q) q refl rest brings earlier mid so_far))
 
 -- and one that waits, so long as the code has it
 module _ {V : Type 0} {T : V → Type 0} {form : FormOf V T} {settings : Settings} (grid : Grid V T) (r : Run) (k : Connection) (bytes : List ℕ) (done : List Item) (q : Request) (timeout : ℤ) (rest : List Item) (brings : Brings settings r k bytes (done ++ Wait q timeout ∷ rest))
-    (written mid : List ℕ) (so_far : HasHandledSome form settings grid r k bytes done written mid) (member : ℕ) (to : k.member ≡ member) (span : ℤ) (as_long : span ≡ timeout) where
+    (earlier mid : List Told) (so_far : HasHandledSome form settings grid r k bytes done earlier mid) (member : ℕ) (to : k.member ≡ member) (span : ℤ) (as_long : span ≡ timeout) where
   waited_so : (skips : List CallId) → by_waiting settings so_far.now member q span skips ≡ handled (partition_object settings) skips so_far.now k (Wait q timeout)
   waited_so skips = λ i. begins_to_wait (partition_object settings) skips so_far.now (sym to i) q (as_long i)
 
   pub may_wait_next : HasRoom r k bytes → AreFew r → MayHandleNext form grid member q
   may_wait_next room few =
-      may_handle grid r k bytes done (Wait q timeout) q refl rest brings written mid so_far
+      may_handle grid r k bytes done (Wait q timeout) q refl rest brings earlier mid so_far
       (brings.waits_fit q timeout (contains_in (Wait q timeout) (done ++ Wait q timeout ∷ rest) (in_right (Wait q timeout) done (Wait q timeout ∷ rest) (inl refl)))) room few member to
 
-  pub waited_one_more : (new : Grid V T) (text : List ℕ) → HasHandledCall form settings new so_far.now q.id.conn (q.id.number + 1) (by_waiting settings so_far.now member q span) mid text → HasHandledSome form settings new r k bytes (done ++ Wait q timeout ∷ []) written text
-  waited_one_more new text did =
-      call_one_more grid r k bytes done (Wait q timeout) q refl rest brings written mid so_far (by_waiting settings so_far.now member q span) waited_so new text did
-      (may_begin so_far.now (with_bytes k bytes) (length (messages_on k) + length done) q so_far.midway.may (name grid r k bytes done (Wait q timeout) q refl rest brings written mid so_far) (partition_object settings) did.skips member span)
+  pub waited_one_more : (new : Grid V T) (later : List Told) → HasHandledCall form settings new so_far.now q.id.conn (q.id.number + 1) (by_waiting settings so_far.now member q span) mid later → HasHandledSome form settings new r k bytes (done ++ Wait q timeout ∷ []) earlier later
+  waited_one_more new later did =
+      call_one_more grid r k bytes done (Wait q timeout) q refl rest brings earlier mid so_far (by_waiting settings so_far.now member q span) waited_so new later did
+      (may_begin so_far.now (with_bytes k bytes) (length (messages_on k) + length done) q so_far.midway.may (name grid r k bytes done (Wait q timeout) q refl rest brings earlier mid so_far) (partition_object settings) did.skips member span)
 
   pub waited_full : GivesUpSo so_far.now (by_waiting settings so_far.now member q span) → IsGivenUpMidway settings r k bytes (done ++ Wait q timeout ∷ rest)
   waited_full up =
-      call_given_up grid r k bytes done (Wait q timeout) q refl rest brings written mid so_far (by_waiting settings so_far.now member q span) waited_so up
-      (begins_run up.skips so_far.now member q span so_far.midway.run (next_call grid r k bytes done (Wait q timeout) q refl rest brings written mid so_far))
+      call_given_up grid r k bytes done (Wait q timeout) q refl rest brings earlier mid so_far (by_waiting settings so_far.now member q span) waited_so up
+      (begins_run up.skips so_far.now member q span so_far.midway.run (next_call grid r k bytes done (Wait q timeout) q refl rest brings earlier mid so_far))

@@ -1,34 +1,20 @@
 -- A line that is taken apart, in a grid: it is counted as a comment is, each of its events finds room, and behind the last one the grid stands as between two lines.
-use Rattle.std.proofs.Common.{ℕ, ◌+◌, ◌<◌, ◌≤◌, true≢false, List, ap, sym, ◌∙◌, subst, arith}
+use Rattle.std.proofs.Common.{ℕ, ◌+◌, ◌<◌, ◌≤◌, ap, sym, ◌∙◌, subst, arith}
 use Rattle.std.specs.List.{find}
 use Rattle.call_engine.specs.Calls.{Settings}
 use Rattle.script_lang.specs.Limits.{most_lines}
-use Rattle.script_lang.specs.declared.line.Line.{Line}
-use Rattle.script_lang.specs.declared.line.Line.TheVariants.{Comment}
 use Rattle.replay_run.specs.declared.grid.Grid.{Grid}
 use Rattle.replay_run.specs.Runs.{Run, is_connection, next_line}
 use Rattle.replay_run.specs.Rebalancing.{most_line_events}
-use Rattle.replay_run.specs.Grids.{FormOf, AreFew, IsBounded, AreReached, Stands, MayRun, HasRun, IsGivenUp}
+use Rattle.replay_run.specs.Grids.{FormOf, AreFew, IsBounded, AreReached, Stands}
 use Rattle.replay_run.specs.WorldCalls.{HasRoomAt, IsAmid}
 use Rattle.replay_run.proofs.Bounds.{kept_small}
 use Rattle.replay_run.proofs.EventLines.{stands_room}
 use Rattle.replay_run.proofs.TakenApart.{TakesFew, room_after}
 
--- It may be counted as a comment is.
-pub comment_may_run : {V : Type 0} {T : V → Type 0} {form : FormOf V T} (grid : Grid V T) (number : ℕ) (line : Line) → MayRun form grid number line → MayRun form grid number Comment
-comment_may_run grid number line may = record { settings = may.settings; run = may.run; stands = may.stands; read = tt; next = may.next; within = may.within }
-
 module _ {V : Type 0} {T : V → Type 0} {form : FormOf V T} {settings : Settings} where
   pub stands_amid : (grid : Grid V T) (r : Run) → Stands form settings grid r → IsAmid form settings grid r
   stands_amid grid r s = record { run = s.run; holds = s.holds; listeners = s.listeners; settled = s.settled }
-
-  -- It is counted.
-  pub comment_ran : (new : Grid V T) (r : Run) (written text : List ℕ) → HasRun form settings new r Comment written text → IsAmid form settings new (next_line r)
-  comment_ran new r written text ran = stands_amid new (next_line r) ran.stands
-
-  -- nothing meets a full partition by that
-  pub comment_goes_on : (grid : Grid V T) (r : Run) → Stands form settings grid r → IsGivenUp settings r Comment → ⊥
-  comment_goes_on grid r s up = true≢false (sym up.full ∙ s.holds.goes_on)
 
   module _ (grid : Grid V T) (r : Run) (s : Stands form settings grid r) (limit : r.lines + 1 ≤ most_lines) (next : Run) (taken reopens : ℕ) (few : TakesFew taken reopens (next_line r) next) where
     -- Some of its events were taken.

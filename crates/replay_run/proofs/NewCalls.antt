@@ -22,18 +22,18 @@ use Rattle.replay_run.specs.ScriptRuns.{IsRun, IsNext, call_asked}
 use Rattle.replay_run.specs.Tables.{Table, Opened, opened_at, with_arrival}
 use Rattle.replay_run.specs.Tallies.{tallied}
 use Rattle.replay_run.specs.Grids.{FormOf, AreFew, GridWorld, HasTable, IsConnection, IsCounting, IsTally, AreListening, Holds}
-use Rattle.replay_run.specs.WorldCalls.{Onward, GivesUpSo, going_out, texts_of, arrival_to, IsCalledSo, IsSkippedSo, HasAsked, HasCallRoom, HasRoomAt}
+use Rattle.replay_run.specs.WorldCalls.{Onward, GivesUpSo, going_out, arrival_to, IsCalledSo, IsSkippedSo, HasAsked, HasCallRoom, HasRoomAt}
 use Rattle.replay_run.specs.WaiterCalls.{IsBetween, HasServed, HasHandledCall, by_turns, by_call}
 use Rattle.replay_run.proofs.Arriving.{arrives_now}
 use Rattle.replay_run.proofs.Bounds.{asked_few}
 use Rattle.replay_run.proofs.EventRuns.{asks_here, asks_nothing, served_run, served_kept}
 use Rattle.replay_run.proofs.GivingOut.{HasGivenOut}
 use Rattle.replay_run.proofs.GivingUp.{gives_up_first, gives_up_then}
-use Rattle.replay_run.proofs.GridCalls.{HoldsApart, IsAfter, HasText, HasMade, call_ran, call_skipped}
+use Rattle.replay_run.proofs.GridCalls.{HoldsApart, IsAfter, HasSaid, HasMade, call_ran, call_skipped}
 use Rattle.replay_run.proofs.Growing.{asks_goes, served_goes}
 use Rattle.replay_run.proofs.HistoryTexts.{uncome_unanswered}
 use Rattle.replay_run.proofs.Lines.{asked_come}
-use Rattle.replay_run.proofs.LineTexts.{new_with, texts_more}
+use Rattle.replay_run.proofs.LineTexts.{new_with, told_more}
 use Rattle.replay_run.proofs.RunFacts.{ArrivalsOk}
 use Rattle.replay_run.proofs.RunsOfLines.{run_ok}
 use Rattle.replay_run.proofs.Serving.{counting_by}
@@ -41,6 +41,8 @@ use Rattle.replay_run.proofs.SkipLaws.{both_go, both_among}
 use Rattle.replay_run.proofs.TableCounts.{counting_called, counting_answers}
 use Rattle.replay_run.proofs.TableRuns.{found_opened, unheard, came_arriving, came_waiting, arrived_table}
 use Rattle.replay_run.proofs.Tallies.{HasTallied, arrived_tally}
+use Rattle.replay_run.specs.LineTold.{all_told}
+use Rattle.line_told.specs.declared.told.Told.{Told}
 
 -- it is the only arrival that is new
 
@@ -102,11 +104,11 @@ held_apart grid r h = record {
 -- A call that reached its world, which then gave out all that waited.
 
 module _ {V : Type 0} {T : V → Type 0} {form : FormOf V T} {settings : Settings} (grid : Grid V T) (r : Run) (run : IsRun (partition_object settings) r) (h : Holds form settings grid r) (member : ℕ) (request : Request) (next : IsNext r request) (are : AreListening grid.listeners.items r (Some request.id.conn)) (count : IsCounting grid.connections r request.id.conn request.id.number)
-    (low : request.partition < partitions) (new : Grid V T) (called world : GridWorld) (known : ℕ) (knew : known ≡ version_known (world_at (partition_object settings) r request.partition) member) (reception : Reception) (added written text : List ℕ)
+    (low : request.partition < partitions) (new : Grid V T) (called world : GridWorld) (known : ℕ) (knew : known ≡ version_known (world_at (partition_object settings) r request.partition) member) (reception : Reception) (added earlier later : List Told)
     (after : IsAfter grid new r.lines request.partition (with_arrival grid.connections request.id.conn r.lines) world (going_out r (Some request.id.conn) (waiting called member)))
     (tally : new.tally ≡ tallied reception grid.tally)
     (out : HasGivenOut settings called world member)
-    (wrote : HasText settings called r (Some request.id.conn) (arrival_at r member request) known written added text)
+    (wrote : HasSaid settings called r (Some request.id.conn) (arrival_at r member request) known earlier added later)
     (goes : is_full (world_at (partition_object settings) r request.partition) ≡ false) where
   abbrev o : Object Request Partition
   o = partition_object settings
@@ -132,7 +134,7 @@ module _ {V : Type 0} {T : V → Type 0} {form : FormOf V T} {settings : Setting
   tally_now : (later : Run) → later.arrivals ≡ r.arrivals ++ a ∷ [] → later.waiters ≡ r.waiters → HasTallied reception grid.tally later → IsTally new.tally later
   tally_now later come waiting has = subst (λ t. IsTally t later) (sym tally) (arrived_tally grid.tally r later a reception h.tally come waiting has)
 
-  made_asked : HasMade form settings new r own a written text → HasAsked form settings new r member request written text
+  made_asked : HasMade form settings new r own a earlier later → HasAsked form settings new r member request earlier later
   made_asked made = record {
     skips = made.skips;
     its_own = made.its_own;
@@ -143,19 +145,19 @@ module _ {V : Type 0} {T : V → Type 0} {form : FormOf V T} {settings : Setting
     goes = goes;
   }
 
-  asked_ran : IsCalledSo settings (h.worlds request.partition low).world called (events_at request.partition r.events) a added reception → HasAsked form settings new r member request written text
-  asked_ran did = made_asked (call_ran grid r (run_ok run) (held_apart grid r h) own a (arrives_now r member request next) are low its_table come_table new called world known knew reception added written text after out wrote tally_now h.tally.refused h.tally.memory did)
+  asked_ran : IsCalledSo settings (h.worlds request.partition low).world called (events_at request.partition r.events) a added reception → HasAsked form settings new r member request earlier later
+  asked_ran did = made_asked (call_ran grid r (run_ok run) (held_apart grid r h) own a (arrives_now r member request next) are low its_table come_table new called world known knew reception added earlier later after out wrote tally_now h.tally.refused h.tally.memory did)
 
-  asked_missed : IsSkippedSo settings (h.worlds request.partition low).world called (events_at request.partition r.events) a added reception → HasAsked form settings new r member request written text
-  asked_missed did = made_asked (call_skipped grid r (run_ok run) (held_apart grid r h) own a (arrives_now r member request next) are low its_table come_table new called world known knew reception added written text after out wrote tally_now h.tally.refused h.tally.memory did)
+  asked_missed : IsSkippedSo settings (h.worlds request.partition low).world called (events_at request.partition r.events) a added reception → HasAsked form settings new r member request earlier later
+  asked_missed did = made_asked (call_skipped grid r (run_ok run) (held_apart grid r h) own a (arrives_now r member request next) are low its_table come_table new called world known knew reception added earlier later after out wrote tally_now h.tally.refused h.tally.memory did)
 
 -- as the code has it
 pub asked_grid : {V : Type 0} {T : V → Type 0} {form : FormOf V T} {settings : Settings} (grid : Grid V T) (r : Run) → IsRun (partition_object settings) r → (h : Holds form settings grid r) (member : ℕ) (request : Request) → IsNext r request → AreListening grid.listeners.items r (Some request.id.conn) → IsCounting grid.connections r request.id.conn request.id.number → (low : request.partition < partitions)
-    → (new : Grid V T) (old called world : GridWorld) (line now known : ℕ) → known ≡ version_known (world_at (partition_object settings) r request.partition) member → (reception : Reception) (added written text : List ℕ) → slice_get grid.worlds.items request.partition ≡ Some old → line ≡ r.lines → now ≡ moment_of r member
+    → (new : Grid V T) (old called world : GridWorld) (line now known : ℕ) → known ≡ version_known (world_at (partition_object settings) r request.partition) member → (reception : Reception) (added earlier later : List Told) → slice_get grid.worlds.items request.partition ≡ Some old → line ≡ r.lines → now ≡ moment_of r member
     → IsAfter grid new line request.partition (with_arrival grid.connections request.id.conn line) world (going_out r (Some request.id.conn) (waiting called member)) → new.tally ≡ tallied reception grid.tally → HasGivenOut settings called world member
     → IsCalledSo settings old called (events_at request.partition r.events) (arrival_to line member now request) added reception ⊎ IsSkippedSo settings old called (events_at request.partition r.events) (arrival_to line member now request) added reception
-    → HasText settings called r (Some request.id.conn) (arrival_at r member request) known written added text → is_full (world_at (partition_object settings) r request.partition) ≡ false → HasAsked form settings new r member request written text
-asked_grid {form = form} {settings = settings} grid r run h member request next are count low new old called world line now known knew reception added written text there at_line at_moment after tally out did wrote goes = ⊎_elim ran skipped did
+    → HasSaid settings called r (Some request.id.conn) (arrival_at r member request) known earlier added later → is_full (world_at (partition_object settings) r request.partition) ≡ false → HasAsked form settings new r member request earlier later
+asked_grid {form = form} {settings = settings} grid r run h member request next are count low new old called world line now known knew reception added earlier later there at_line at_moment after tally out did wrote goes = ⊎_elim ran skipped did
   where
     same_world : old ≡ (h.worlds request.partition low).world
     same_world =
@@ -168,23 +170,23 @@ asked_grid {form = form} {settings = settings} grid r run h member request next 
     after_it : IsAfter grid new r.lines request.partition (with_arrival grid.connections request.id.conn r.lines) world (going_out r (Some request.id.conn) (waiting called member))
     after_it = subst (λ l. IsAfter grid new l request.partition (with_arrival grid.connections request.id.conn l) world (going_out r (Some request.id.conn) (waiting called member))) at_line after
 
-    ran : IsCalledSo settings old called (events_at request.partition r.events) (arrival_to line member now request) added reception → HasAsked form settings new r member request written text
+    ran : IsCalledSo settings old called (events_at request.partition r.events) (arrival_to line member now request) added reception → HasAsked form settings new r member request earlier later
     ran d =
-        asked_ran grid r run h member request next are count low new called world known knew reception added written text after_it tally out wrote goes
+        asked_ran grid r run h member request next are count low new called world known knew reception added earlier later after_it tally out wrote goes
         (subst (λ w. IsCalledSo settings w called (events_at request.partition r.events) (arrival_at r member request) added reception) same_world
         (subst (λ x. IsCalledSo settings old called (events_at request.partition r.events) x added reception) same_arrival d))
 
-    skipped : IsSkippedSo settings old called (events_at request.partition r.events) (arrival_to line member now request) added reception → HasAsked form settings new r member request written text
+    skipped : IsSkippedSo settings old called (events_at request.partition r.events) (arrival_to line member now request) added reception → HasAsked form settings new r member request earlier later
     skipped d =
-        asked_missed grid r run h member request next are count low new called world known knew reception added written text after_it tally out wrote goes
+        asked_missed grid r run h member request next are count low new called world known knew reception added earlier later after_it tally out wrote goes
         (subst (λ w. IsSkippedSo settings w called (events_at request.partition r.events) (arrival_at r member request) added reception) same_world
         (subst (λ x. IsSkippedSo settings old called (events_at request.partition r.events) x added reception) same_arrival d))
 
 -- where its tally is made otherwise
-pub counted_as : {V : Type 0} {T : V → Type 0} {form : FormOf V T} {settings : Settings} {r : Run} {member : ℕ} {request : Request} {written text : List ℕ} (new : Grid V T) (tally other : Tally) → tally ≡ other
-    → HasAsked form settings (record new { tally = other }) r member request written text → HasAsked form settings (record new { tally = tally }) r member request written text
-counted_as {form = form} {settings = settings} {r = r} {member = member} {request = request} {written = written} {text = text} new tally other same =
-    subst (λ t. HasAsked form settings (record new { tally = t }) r member request written text) (sym same)
+pub counted_as : {V : Type 0} {T : V → Type 0} {form : FormOf V T} {settings : Settings} {r : Run} {member : ℕ} {request : Request} {earlier later : List Told} (new : Grid V T) (tally other : Tally) → tally ≡ other
+    → HasAsked form settings (record new { tally = other }) r member request earlier later → HasAsked form settings (record new { tally = tally }) r member request earlier later
+counted_as {form = form} {settings = settings} {r = r} {member = member} {request = request} {earlier = earlier} {later = later} new tally other same =
+    subst (λ t. HasAsked form settings (record new { tally = t }) r member request earlier later) (sym same)
 
 -- The turns come after it.
 
@@ -210,7 +212,7 @@ module _ (settings : Settings) (r : Run) (member : ℕ) (request : Request) wher
       gives_up_first r first then (asks_goes object r its_conn coming) (λ x. served_goes object x its_conn request.partition member)
       (record { skips = []; own = λ id c. absurd (in_contains id [] c); full = asks_nothing object [] r its_conn coming full })
 
-  module _ {V : Type 0} {T : V → Type 0} {form : FormOf V T} (mid : Grid V T) (run : IsRun (partition_object settings) r) (next : IsNext r request) (written so_far : List ℕ) (did : HasAsked form settings mid r member request written so_far) where
+  module _ {V : Type 0} {T : V → Type 0} {form : FormOf V T} (mid : Grid V T) (run : IsRun (partition_object settings) r) (next : IsNext r request) (earlier so_far : List Told) (did : HasAsked form settings mid r member request earlier so_far) where
     -- the run by then
     abbrev pub admitted : Run
     admitted = asked (partition_object settings) did.skips r (Some request.id.conn) (arrival_at r member request)
@@ -249,7 +251,7 @@ module _ (settings : Settings) (r : Run) (member : ℕ) (request : Request) wher
         (λ t. served_run t (first did.skips) its_conn request.partition member (subst (IsRun object) (sym admitted_is) admitted_run))
 
     -- All had their turns.
-    module _ (new : Grid V T) (text : List ℕ) (turns : HasServed form settings mid new admitted (Some request.id.conn) (by_turns settings admitted (Some request.id.conn) request.partition member) so_far text) where
+    module _ (new : Grid V T) (later : List Told) (turns : HasServed form settings mid new admitted (Some request.id.conn) (by_turns settings admitted (Some request.id.conn) request.partition member) so_far later) where
       abbrev last : Run
       last = served object turns.skips admitted its_conn request.partition member
 
@@ -268,21 +270,21 @@ module _ (settings : Settings) (r : Run) (member : ℕ) (request : Request) wher
       same : by_call settings r member request both ≡ last
       same = both_go r first then (asks_goes object r its_conn coming) (λ x. served_goes object x its_conn request.partition member) did.skips turns.skips once of_first of_then ∙ last_is
 
-      its_text : text ≡ written ++ texts_of (new_messages r last)
-      its_text =
+      its_told : later ≡ earlier ++ all_told (new_messages r last)
+      its_told =
           let more = ((served_goes object admitted its_conn request.partition member).grows turns.skips).appended in
           let before = ((asks_goes object r its_conn coming).grows did.skips).appended in
           turns.added
-          ∙ (λ i. did.added i ++ texts_of (new_with admitted last more.0 (sym more.1) i))
-          ∙ append_assoc written (texts_of (new_messages r admitted)) (texts_of more.0)
-          ∙ ap (λ xs. written ++ xs) (sym (texts_more r admitted last more.0 (subst (λ (x : Run). IsFrontOf r.appended x.appended) admitted_is before) (sym more.1)))
+          ∙ (λ i. did.added i ++ all_told (new_with admitted last more.0 (sym more.1) i))
+          ∙ append_assoc earlier (all_told (new_messages r admitted)) (all_told more.0)
+          ∙ ap (λ xs. earlier ++ xs) (sym (told_more r admitted last more.0 (subst (λ (x : Run). IsFrontOf r.appended x.appended) admitted_is before) (sym more.1)))
 
-      pub handled_call : HasHandledCall form settings new r request.id.conn (request.id.number + 1) (by_call settings r member request) written text
+      pub handled_call : HasHandledCall form settings new r request.id.conn (request.id.number + 1) (by_call settings r member request) earlier later
       handled_call = record {
         skips = both;
         among = both_among r first then (asks_goes object r its_conn coming) (λ x. served_goes object x its_conn request.partition member) did.skips turns.skips once of_first of_then;
         between = subst (λ (x : Run). IsBetween form settings new x its_conn) (sym same) turns.between;
         counting = subst (λ (x : Run). IsCounting new.connections x request.id.conn (request.id.number + 1)) (sym same)
             (counting_by mid.connections new.connections admitted last request.id.conn (request.id.number + 1) turns.counts (served_kept object turns.skips admitted its_conn request.partition member).connections did.counting);
-        added = its_text ∙ ap (λ (x : Run). written ++ texts_of (new_messages r x)) (sym same);
+        added = its_told ∙ ap (λ (x : Run). earlier ++ all_told (new_messages r x)) (sym same);
       }

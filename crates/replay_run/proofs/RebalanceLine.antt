@@ -1,6 +1,6 @@
 -- The line that runs the steps of a plan: the run goes on from part to part, and the line prints the plan and each step's end.
 use Rattle.std.proofs.Common.{◌≡◌, ℕ, zero, suc, ◌+◌, ◌-◌, ◌≤◌, ◌<◌, Bool, true, false, ◌&&◌, cond, List, [], ◌∷◌, ◌++◌, map, filter, take, drop, length, get_or, Option, Some, None, Result, Ok, refl, ap, sym, ◌∙◌, subst, append-nil, append_assoc, add-one, arith}
-use Rattle.std.specs.List.{list_all, find, flat_map}
+use Rattle.std.specs.List.{list_all, find}
 use Rattle.std.proofs.lemmas.List.{map-append, take-append-drop, take_more, drop_more}
 use Rattle.partition_protocol.proofs.Lists.{In, in_contains}
 use Rattle.grid_base.specs.declared.names.CallId.{CallId}
@@ -27,24 +27,25 @@ use Rattle.script_lang.specs.Limits.{most_lines}
 use Rattle.script_lang.specs.declared.line.Line.TheVariants.{Rebalance}
 use Rattle.replay_run.specs.declared.grid.Grid.{Grid}
 use Rattle.replay_run.specs.Runs.{Run, is_connection, events_at, next_line, takes, flowed}
-use Rattle.replay_run.specs.Appending.{appended_text, new_messages}
+use Rattle.replay_run.specs.Appending.{new_messages}
 use Rattle.replay_run.specs.Endings.{new_arrivals, AreAmong}
 use Rattle.replay_run.specs.Rebalancing.{service_at, is_moving_at, most_deliveries, most_turns, most_line_events, event_begun, first_resends, turned, turned_on, joined, rejoined, stepped, stepped_all, plan_in, first_steps, steps_in, rebalanced}
-use Rattle.replay_run.specs.RebalancingTexts.{plan_text, end_text, ran_text, ran_texts}
 use Rattle.replay_run.specs.Grids.{FormOf, Stands, HasRun, IsGivenUp}
-use Rattle.replay_run.specs.WorldCalls.{texts_of, Onward, GivesUpSo, HasGoneOnSo, HasRoomAt, IsAmid, MayStep, HasStepped, HasNoSteps}
+use Rattle.replay_run.specs.WorldCalls.{Onward, GivesUpSo, HasGoneOnSo, HasRoomAt, IsAmid, MayStep, HasStepped, HasNoSteps}
 use Rattle.replay_run.proofs.Bounds.{kept_small, rebalance_few}
 use Rattle.replay_run.proofs.LineBounds.{line_bounded}
 use Rattle.replay_run.proofs.EventRuns.{Kept, kept_refl, kept_trans, takes_few, takes_kept, flowed_few, flowed_kept}
 use Rattle.replay_run.proofs.EventLines.{line_given_up}
 use Rattle.replay_run.proofs.Flowing.{so_nowhere, so_as, so_further, gives_up_after}
 use Rattle.replay_run.proofs.GivingUp.{up_as, gives_up_first, gives_up_then}
-use Rattle.replay_run.proofs.Growing.{GoesBy, goes_then, takes_goes, first_goes, flowed_goes, turned_goes, turned_on_goes, rejoined_goes, stepped_goes, stepped_all_goes, ran_alike}
+use Rattle.replay_run.proofs.Growing.{GoesBy, goes_then, takes_goes, first_goes, flowed_goes, turned_goes, turned_on_goes, rejoined_goes, stepped_goes, stepped_all_goes, ran_told_alike}
 use Rattle.replay_run.proofs.RunFacts.{ArrivalsOk}
 use Rattle.replay_run.proofs.RunsOfLines.{run_ok}
 use Rattle.replay_run.proofs.SkipLaws.{alike_first, both_go, both_among}
 use Rattle.replay_run.proofs.LineTexts.{new_with}
 use Rattle.replay_run.proofs.Rebalanced.{begun_unasked, first_few, first_kept, turned_on_few, turned_on_kept, turned_on_run, stepped_kept, stepped_run, steps_run, rebalanced_kept, stepped_elsewhere, stepped_come, steps_come}
+use Rattle.replay_run.specs.LineTold.{all_told, plan_told, end_told, ran_told, ran_all_told}
+use Rattle.line_told.specs.declared.told.Told.{Told}
 
 -- parts of the line
 module _ (o : Object Request Partition) (skips : List CallId) (r : Run) (p : ℕ) where
@@ -92,8 +93,8 @@ turned_parts o skips r p (suc a) b (suc all) e = go (is_moving_at o r p) refl (�
         ∙ sym (ap (λ (x : Run). turned_on o skips x p b) (turns_end o skips r p (suc a) still) ∙ turns_end o skips r p b still)
 
 -- So many turns were taken.
-pub record HasTurned {V : Type 0} {T : V → Type 0} (form : FormOf V T) (settings : Settings) (grid : Grid V T) (r : Run) (p turns : ℕ) (written text : List ℕ) : Type 0 where
-  pub on : HasGoneOnSo form settings grid r (λ skips. turned_on (partition_object settings) skips r p turns) written text
+pub record HasTurned {V : Type 0} {T : V → Type 0} (form : FormOf V T) (settings : Settings) (grid : Grid V T) (r : Run) (p turns : ℕ) (earlier later : List Told) : Type 0 where
+  pub on : HasGoneOnSo form settings grid r (λ skips. turned_on (partition_object settings) skips r p turns) earlier later
 
 abbrev turns_on : Settings → ℕ → ℕ → Run → Onward
 turns_on settings p turns x skips = turned_on (partition_object settings) skips x p turns
@@ -102,10 +103,10 @@ abbrev one_turn : Settings → ℕ → Run → Onward
 one_turn settings p x skips = turned (partition_object settings) skips x p
 
 module _ {V : Type 0} {T : V → Type 0} {form : FormOf V T} {settings : Settings} (r : Run) (p : ℕ) where
-  pub none_turned : (grid : Grid V T) (text : List ℕ) → IsAmid form settings grid r → HasTurned form settings grid r p 0 text text
-  none_turned grid text amid = record { on = so_nowhere grid r text amid }
+  pub none_turned : (grid : Grid V T) (later : List Told) → IsAmid form settings grid r → HasTurned form settings grid r p 0 later later
+  none_turned grid later amid = record { on = so_nowhere grid r later amid }
 
-  module _ (grid : Grid V T) (turns : ℕ) (written mid : List ℕ) (did : HasTurned form settings grid r p turns written mid) where
+  module _ (grid : Grid V T) (turns : ℕ) (earlier mid : List Told) (did : HasTurned form settings grid r p turns earlier mid) where
     -- the run by then
     abbrev pub turned_so_far : Run
     turned_so_far = turned_on (partition_object settings) did.on.skips r p turns
@@ -118,13 +119,13 @@ module _ {V : Type 0} {T : V → Type 0} {form : FormOf V T} {settings : Setting
 
     -- One more is taken.
     module _ (moving : is_moving_at (partition_object settings) turned_so_far p ≡ true) where
-      pub one_turned : (new : Grid V T) (text : List ℕ) → HasGoneOnSo form settings new turned_so_far (λ skips. turned (partition_object settings) skips turned_so_far p) mid text → HasTurned form settings new r p (turns + 1) written text
-      one_turned new text taken =
+      pub one_turned : (new : Grid V T) (later : List Told) → HasGoneOnSo form settings new turned_so_far (λ skips. turned (partition_object settings) skips turned_so_far p) mid later → HasTurned form settings new r p (turns + 1) earlier later
+      one_turned new later taken =
           let o = partition_object settings in
           let now = turned_so_far in
-          let step = so_as new now (one_turn settings p now) (turns_on settings p (suc zero) now) mid text taken (sym (turn_more o taken.skips now p zero moving)) in
-          let whole = so_further grid new r (turns_on settings p turns r) (turns_on settings p (suc zero)) (turned_on_goes o r p turns) (λ x. turned_on_goes o x p (suc zero)) written mid did.on text step.0 in
-          record { on = (so_as new r (λ s. turns_on settings p (suc zero) (turns_on settings p turns r s) s) (turns_on settings p (turns + 1) r) written text whole.0 (sym (turned_parts o whole.0.skips r p turns (suc zero) (turns + 1) (omega arith)))).0 }
+          let step = so_as new now (one_turn settings p now) (turns_on settings p (suc zero) now) mid later taken (sym (turn_more o taken.skips now p zero moving)) in
+          let whole = so_further grid new r (turns_on settings p turns r) (turns_on settings p (suc zero)) (turned_on_goes o r p turns) (λ x. turned_on_goes o x p (suc zero)) earlier mid did.on later step.0 in
+          record { on = (so_as new r (λ s. turns_on settings p (suc zero) (turns_on settings p turns r s) s) (turns_on settings p (turns + 1) r) earlier later whole.0 (sym (turned_parts o whole.0.skips r p turns (suc zero) (turns + 1) (omega arith)))).0 }
 
       -- or the run is given up
       pub turn_ends : turns < 4 → GivesUpSo turned_so_far (λ skips. turned (partition_object settings) skips turned_so_far p) → GivesUpSo r (λ skips. turned_on (partition_object settings) skips r p most_turns)
@@ -135,19 +136,19 @@ module _ {V : Type 0} {T : V → Type 0} {form : FormOf V T} {settings : Setting
           let all : turns + suc rest ≡ most_turns = omega (arith, more) in
           let step = gives_up_first now (one_turn settings p now) (turns_on settings p rest) (turned_goes o now p) (λ x. turned_on_goes o x p rest) full in
           let its = up_as now (λ s. turns_on settings p rest (one_turn settings p now s) s) (turns_on settings p (suc rest) now) (λ s. sym (turn_more o s now p rest moving)) step in
-          let whole = gives_up_after grid grid r (turns_on settings p turns r) (turns_on settings p (suc rest)) (turned_on_goes o r p turns) (λ x. turned_on_goes o x p (suc rest)) written mid did.on its (λ s. turned_on_run s now p (suc rest) did.on.on.amid.run) in
+          let whole = gives_up_after grid grid r (turns_on settings p turns r) (turns_on settings p (suc rest)) (turned_on_goes o r p turns) (λ x. turned_on_goes o x p (suc rest)) earlier mid did.on its (λ s. turned_on_run s now p (suc rest) did.on.on.amid.run) in
           up_as r (λ s. turns_on settings p (suc rest) (turns_on settings p turns r s) s) (turns_on settings p most_turns r) (λ s. sym (turned_parts o s r p turns (suc rest) most_turns all)) whole
 
-    all_turned : turned_on (partition_object settings) did.on.skips r p most_turns ≡ turned_so_far → HasGoneOnSo form settings grid r (λ skips. turned_on (partition_object settings) skips r p most_turns) written mid
-    all_turned same = (so_as grid r (turns_on settings p turns r) (turns_on settings p most_turns r) written mid did.on (sym same)).0
+    all_turned : turned_on (partition_object settings) did.on.skips r p most_turns ≡ turned_so_far → HasGoneOnSo form settings grid r (λ skips. turned_on (partition_object settings) skips r p most_turns) earlier mid
+    all_turned same = (so_as grid r (turns_on settings p turns r) (turns_on settings p most_turns r) earlier mid did.on (sym same)).0
 
-    pub none_moving : turns ≤ 4 → is_moving_at (partition_object settings) turned_so_far p ≡ false → HasGoneOnSo form settings grid r (λ skips. turned_on (partition_object settings) skips r p most_turns) written mid
+    pub none_moving : turns ≤ 4 → is_moving_at (partition_object settings) turned_so_far p ≡ false → HasGoneOnSo form settings grid r (λ skips. turned_on (partition_object settings) skips r p most_turns) earlier mid
     none_moving within still =
         let rest : ℕ = 4 - turns in
         let all : turns + rest ≡ most_turns = omega (arith, within) in
         all_turned (turned_parts (partition_object settings) did.on.skips r p turns rest most_turns all ∙ turns_end (partition_object settings) did.on.skips turned_so_far p rest still)
 
-    pub four_turned : turns ≤ 4 → 4 ≤ turns → HasGoneOnSo form settings grid r (λ skips. turned_on (partition_object settings) skips r p most_turns) written mid
+    pub four_turned : turns ≤ 4 → 4 ≤ turns → HasGoneOnSo form settings grid r (λ skips. turned_on (partition_object settings) skips r p most_turns) earlier mid
     four_turned within reached = let same : most_turns ≡ turns = omega (arith, within, reached) in all_turned (ap (turned_on (partition_object settings) did.on.skips r p) same)
 
 -- lists over the numbers below a bound, one more
@@ -268,11 +269,11 @@ late_room o s t u r p room =
 -- steps
 
 module _ (o : Object Request Partition) (skips : List CallId) where
-  pub ran_more : (r : Run) (steps : List Step) (step : Step) → ran_texts o skips r (steps ++ step ∷ []) ≡ ran_texts o skips r steps ++ ran_text o skips (stepped_all o skips r steps) step
-  ran_more r [] step = append-nil (ran_text o skips r step)
+  pub ran_more : (r : Run) (steps : List Step) (step : Step) → ran_all_told o skips r (steps ++ step ∷ []) ≡ ran_all_told o skips r steps ++ ran_told o skips (stepped_all o skips r steps) step
+  ran_more r [] step = append-nil (ran_told o skips r step)
   ran_more r (s ∷ steps) step =
-      ap (λ xs. ran_text o skips r s ++ xs) (ran_more (stepped o skips r s) steps step)
-      ∙ sym (append_assoc (ran_text o skips r s) (ran_texts o skips (stepped o skips r s) steps) (ran_text o skips (stepped_all o skips (stepped o skips r s) steps) step))
+      ap (λ xs. ran_told o skips r s ++ xs) (ran_more (stepped o skips r s) steps step)
+      ∙ sym (append_assoc (ran_told o skips r s) (ran_all_told o skips (stepped o skips r s) steps) (ran_told o skips (stepped_all o skips (stepped o skips r s) steps) step))
 
   pub stepped_more : (r : Run) (steps : List Step) (step : Step) → stepped_all o skips r (steps ++ step ∷ []) ≡ stepped o skips (stepped_all o skips r steps) step
   stepped_more r steps step = fold_push (stepped o skips) r steps step
@@ -329,13 +330,13 @@ next_placed r next [] step rest may = may.1
 next_placed r next (s ∷ front) step rest may = next_placed r (s.partition + 1) front step rest may.3
 
 module _ {V : Type 0} {T : V → Type 0} {form : FormOf V T} {settings : Settings} (r : Run) where
-  pub none_stepped : (grid : Grid V T) (text : List ℕ) → IsAmid form settings grid r → HasStepped form settings grid r [] text text
-  none_stepped grid text amid = record { skips = []; own = λ id c. absurd (in_contains id [] c); amid = amid; added = sym (append-nil text) }
+  pub none_stepped : (grid : Grid V T) (later : List Told) → IsAmid form settings grid r → HasStepped form settings grid r [] later later
+  none_stepped grid later amid = record { skips = []; own = λ id c. absurd (in_contains id [] c); amid = amid; added = sym (append-nil later) }
 
   -- one step, and its end
-  pub one_stepped : (new : Grid V T) (step : Step) (written said text : List ℕ) (line : ℕ) (moving : Bool) (on : HasGoneOnSo form settings new r (λ skips. stepped (partition_object settings) skips r step) written said)
-      → line ≡ r.lines → moving ≡ is_moving_at (partition_object settings) (stepped (partition_object settings) on.skips r step) step.partition → text ≡ said ++ end_text line step.partition moving → HasStepped form settings new r (step ∷ []) written text
-  one_stepped new step written said text line moving on at_line is_moving is =
+  pub one_stepped : (new : Grid V T) (step : Step) (earlier said later : List Told) (moving : Bool) (on : HasGoneOnSo form settings new r (λ skips. stepped (partition_object settings) skips r step) earlier said)
+      → moving ≡ is_moving_at (partition_object settings) (stepped (partition_object settings) on.skips r step) step.partition → later ≡ said ++ end_told step.partition moving → HasStepped form settings new r (step ∷ []) earlier later
+  one_stepped new step earlier said later moving on is_moving is =
       let o = partition_object settings in
       let next = stepped o on.skips r step in
       record {
@@ -343,12 +344,12 @@ module _ {V : Type 0} {T : V → Type 0} {form : FormOf V T} {settings : Setting
         own = on.own;
         amid = on.on.amid;
         added =
-            is ∙ (λ i. (on.on.added ∙ (λ j. written ++ texts_of (sym (new_with r next on.on.messages on.on.appended) j))) i ++ end_text (at_line i) step.partition (is_moving i))
-            ∙ append_assoc written (texts_of (new_messages r next)) (end_text r.lines step.partition (is_moving_at o next step.partition))
-            ∙ ap (λ xs. written ++ xs) (sym (append-nil (ran_text o on.skips r step)));
+            is ∙ (λ i. (on.on.added ∙ (λ j. earlier ++ all_told (sym (new_with r next on.on.messages on.on.appended) j))) i ++ end_told step.partition (is_moving i))
+            ∙ append_assoc earlier (all_told (new_messages r next)) (end_told step.partition (is_moving_at o next step.partition))
+            ∙ ap (λ xs. earlier ++ xs) (sym (append-nil (ran_told o on.skips r step)));
       }
 
-  module _ (grid new : Grid V T) (steps : List Step) (step : Step) (written mid : List ℕ) (did : HasStepped form settings grid r steps written mid) where
+  module _ (grid new : Grid V T) (steps : List Step) (step : Step) (earlier mid : List Told) (did : HasStepped form settings grid r steps earlier mid) where
     -- the run by then
     abbrev pub stepped_so_far : Run
     stepped_so_far = stepped_all (partition_object settings) did.skips r steps
@@ -359,8 +360,8 @@ module _ {V : Type 0} {T : V → Type 0} {form : FormOf V T} {settings : Setting
     abbrev its_step : Run → Onward
     its_step x skips = stepped (partition_object settings) skips x step
 
-    pub more_stepped : (text : List ℕ) → HasStepped form settings new stepped_so_far (step ∷ []) mid text → HasStepped form settings new r (steps ++ step ∷ []) written text
-    more_stepped text one =
+    pub more_stepped : (later : List Told) → HasStepped form settings new stepped_so_far (step ∷ []) mid later → HasStepped form settings new r (steps ++ step ∷ []) earlier later
+    more_stepped later one =
         let o = partition_object settings in
         let now = stepped_so_far in
         let both = did.skips ++ one.skips in
@@ -371,17 +372,17 @@ module _ {V : Type 0} {T : V → Type 0} {form : FormOf V T} {settings : Setting
         let same : stepped o both (stepped_all o both r steps) step ≡ last = both_go r steps_on its_step g h did.skips one.skips once did.own one.own in
         let whole : stepped_all o both r (steps ++ step ∷ []) ≡ last = stepped_more o both r steps step ∙ same in
         let to_now : stepped_all o both r steps ≡ now = sym (g.alike did.skips both (λ a i. sym (alike_first r steps_on its_step g h did.skips one.skips once did.own one.own a i))) in
-        let front : ran_texts o both r steps ≡ ran_texts o did.skips r steps = sym (ran_alike o r steps did.skips both (λ a i. sym (alike_first r steps_on its_step g h did.skips one.skips once did.own one.own a i))) in
-        let its : ran_text o both (stepped_all o both r steps) step ≡ ran_text o one.skips now step =
-        (λ i. flat_map appended_text (new_messages (to_now i) (same i)) ++ end_text (to_now i).lines step.partition (is_moving_at o (same i) step.partition)) in
+        let front : ran_all_told o both r steps ≡ ran_all_told o did.skips r steps = sym (ran_told_alike o r steps did.skips both (λ a i. sym (alike_first r steps_on its_step g h did.skips one.skips once did.own one.own a i))) in
+        let its : ran_told o both (stepped_all o both r steps) step ≡ ran_told o one.skips now step =
+        (λ i. all_told (new_messages (to_now i) (same i)) ++ end_told step.partition (is_moving_at o (same i) step.partition)) in
         record {
           skips = both;
           own = subst (λ (x : Run). AreAmong (new_arrivals r x) both) (sym (stepped_more o both r steps step)) (both_among r steps_on its_step g h did.skips one.skips once did.own one.own);
           amid = subst (λ n. IsAmid form settings new n) (sym whole) one.amid;
           added =
-              one.added ∙ (λ i. did.added i ++ append-nil (ran_text o one.skips now step) i)
-              ∙ append_assoc written (ran_texts o did.skips r steps) (ran_text o one.skips now step)
-              ∙ ap (λ xs. written ++ xs) (sym (ran_more o both r steps step ∙ (λ i. front i ++ its i)));
+              one.added ∙ (λ i. did.added i ++ append-nil (ran_told o one.skips now step) i)
+              ∙ append_assoc earlier (ran_all_told o did.skips r steps) (ran_told o one.skips now step)
+              ∙ ap (λ xs. earlier ++ xs) (sym (ran_more o both r steps step ∙ (λ i. front i ++ its i)));
         }
 
     -- or the run is given up at it
@@ -395,17 +396,17 @@ module _ {V : Type 0} {T : V → Type 0} {form : FormOf V T} {settings : Setting
         let whole = gives_up_then r steps_on onward (stepped_all_goes o r steps) goes did.skips did.own its (λ s. steps_run s (stepped o s now step) rest (stepped_run s now step did.amid.run)) in
         up_as r (λ s. onward (steps_on s) s) (λ s. stepped_all o s r (steps ++ step ∷ rest)) (λ s. sym (stepped_parts o s r steps step rest)) whole
 
-pub stepped_as : {V : Type 0} {T : V → Type 0} {form : FormOf V T} {settings : Settings} {r : Run} {new : Grid V T} {steps others : List Step} {written text : List ℕ} → steps ≡ others
-    → HasStepped form settings new r steps written text → HasStepped form settings new r others written text
-stepped_as {form = form} {settings = settings} {r = r} {new = new} {written = written} {text = text} same = subst (λ ss. HasStepped form settings new r ss written text) same
+pub stepped_as : {V : Type 0} {T : V → Type 0} {form : FormOf V T} {settings : Settings} {r : Run} {new : Grid V T} {steps others : List Step} {earlier later : List Told} → steps ≡ others
+    → HasStepped form settings new r steps earlier later → HasStepped form settings new r others earlier later
+stepped_as {form = form} {settings = settings} {r = r} {new = new} {earlier = earlier} {later = later} same = subst (λ ss. HasStepped form settings new r ss earlier later) same
 
 -- what is planned, as it is given
 
 pub gives_plan : (result : Result Plan PlanRefused) (plan : Plan) (planned : Planned) → result ≡ Ok plan → Gives result planned → planned ≡ Balanced plan
 gives_plan result plan planned is = subst (λ x. Gives x planned) is
 
-pub refuses : (line : ℕ) (written text : List ℕ) (planned none : Planned) → HasNoSteps none → planned ≡ none → text ≡ written ++ plan_text line none → HasNoSteps planned × (text ≡ written ++ plan_text line planned)
-refuses line written text planned none empty is shown = (subst HasNoSteps (sym is) empty, shown ∙ ap (λ x. written ++ plan_text line x) (sym is))
+pub refuses : (earlier later : List Told) (planned none : Planned) → HasNoSteps none → planned ≡ none → later ≡ earlier ++ plan_told none → HasNoSteps planned × (later ≡ earlier ++ plan_told planned)
+refuses earlier later planned none empty is shown = (subst HasNoSteps (sym is) empty, shown ∙ ap (λ x. earlier ++ plan_told x) (sym is))
 
 -- the line
 
@@ -425,29 +426,23 @@ module _ {V : Type 0} {T : V → Type 0} {form : FormOf V T} {settings : Setting
         reached = λ c k found. subst (λ m. k.member < m) (sym kept.members) (s.reached c k (ap (find (is_connection c)) (sym kept.connections) ∙ found));
       }
 
-  pub rebalance_line : (number : ℕ) (written text : List ℕ) → number ≡ r.lines + 1
-      → text ≡ (written ++ plan_text number (plan_in (partition_object settings) (next_line r))) ++ ran_texts (partition_object settings) skips (next_line r) (steps_in (partition_object settings) (next_line r) most)
-      → HasRun form settings new r (Rebalance most) written text
-  rebalance_line number written text at_line is = record {
+  pub rebalance_line : (earlier later : List Told)
+      → later ≡ (earlier ++ plan_told (plan_in (partition_object settings) (next_line r))) ++ ran_all_told (partition_object settings) skips (next_line r) (steps_in (partition_object settings) (next_line r) most)
+      → HasRun form settings new r (Rebalance most) earlier later
+  rebalance_line earlier later is = record {
     skips = skips;
     of_line = own;
     stands = next_stands;
     added =
-        is ∙ ap (λ n. (written ++ plan_text n (plan_in o (next_line r))) ++ ran) (at_line ∙ sym kept.lines) ∙ append_assoc written plan ran
-        ∙ ap (λ xs. written ++ xs) (sym (append-nil (plan ++ ran ++ [] ++ [] ++ []) ∙ append-nil (plan ++ ran ++ [] ++ []) ∙ append-nil (plan ++ ran ++ []) ∙ append-nil (plan ++ ran)));
+        is ∙ append_assoc earlier plan ran
+        ∙ ap (λ xs. earlier ++ xs) (sym (append-nil (plan ++ ran)));
   }
     where
-      o : Object Request Partition
-      o = partition_object settings
+      plan : List Told
+      plan = plan_told (plan_in (partition_object settings) (next_line r))
 
-      kept : Kept (next_line r) (rebalanced (partition_object settings) skips (next_line r) most)
-      kept = rebalanced_kept (partition_object settings) skips (next_line r) most
-
-      plan : List ℕ
-      plan = plan_text (rebalanced (partition_object settings) skips (next_line r) most).lines (plan_in (partition_object settings) (next_line r))
-
-      ran : List ℕ
-      ran = ran_texts (partition_object settings) skips (next_line r) (steps_in (partition_object settings) (next_line r) most)
+      ran : List Told
+      ran = ran_all_told (partition_object settings) skips (next_line r) (steps_in (partition_object settings) (next_line r) most)
 
 -- where this is what is planned
 module _ {V : Type 0} {T : V → Type 0} {form : FormOf V T} {settings : Settings} (grid new : Grid V T) (r : Run) (most : ℕ) (s : Stands form settings grid r) (planned : Planned) (is : plan_in (partition_object settings) (next_line r) ≡ planned) where
@@ -459,15 +454,15 @@ module _ {V : Type 0} {T : V → Type 0} {form : FormOf V T} {settings : Setting
       line_given_up settings r (Rebalance most) (λ skips. stepped_all (partition_object settings) skips (next_line r) (first_steps most planned))
       (λ skips. ap (stepped_all (partition_object settings) skips (next_line r)) steps_are) up
 
-  pub planned_line : (number : ℕ) (written start text : List ℕ) → HasStepped form settings new (next_line r) (first_steps most planned) start text → number ≡ r.lines + 1 → r.lines + 1 ≤ most_lines → start ≡ written ++ plan_text number planned → HasRun form settings new r (Rebalance most) written text
-  planned_line number written start text did at_line limit began =
+  pub planned_line : (earlier start later : List Told) → HasStepped form settings new (next_line r) (first_steps most planned) start later → r.lines + 1 ≤ most_lines → start ≡ earlier ++ plan_told planned → HasRun form settings new r (Rebalance most) earlier later
+  planned_line earlier start later did limit began =
       let o = partition_object settings in
       let all = stepped_as (sym steps_are) did in
-      rebalance_line grid new r most s limit all.skips all.own all.amid number written text at_line
-      (all.added ∙ ap (λ xs. xs ++ ran_texts o all.skips (next_line r) (steps_in o (next_line r) most)) (began ∙ ap (λ x. written ++ plan_text number x) (sym is)))
+      rebalance_line grid new r most s limit all.skips all.own all.amid earlier later
+      (all.added ∙ ap (λ xs. xs ++ ran_all_told o all.skips (next_line r) (steps_in o (next_line r) most)) (began ∙ ap (λ x. earlier ++ plan_told x) (sym is)))
 
 -- where nothing is run
 pub refused_line : {V : Type 0} {T : V → Type 0} {form : FormOf V T} {settings : Settings} (grid : Grid V T) (r : Run) (most : ℕ) (s : Stands form settings grid r) (planned : Planned) → plan_in (partition_object settings) (next_line r) ≡ planned
-    → first_steps most planned ≡ [] → {new : Grid V T} → IsAmid form settings new (next_line r) → (number : ℕ) (written text : List ℕ) → number ≡ r.lines + 1 → r.lines + 1 ≤ most_lines → text ≡ written ++ plan_text number planned → HasRun form settings new r (Rebalance most) written text
-refused_line {form = form} {settings = settings} grid r most s planned is none {new = new} amid number written text at_line limit shown =
-    planned_line grid new r most s planned is number written text text (stepped_as (sym none) (none_stepped (next_line r) new text amid)) at_line limit shown
+    → first_steps most planned ≡ [] → {new : Grid V T} → IsAmid form settings new (next_line r) → (earlier later : List Told) → r.lines + 1 ≤ most_lines → later ≡ earlier ++ plan_told planned → HasRun form settings new r (Rebalance most) earlier later
+refused_line {form = form} {settings = settings} grid r most s planned is none {new = new} amid earlier later limit shown =
+    planned_line grid new r most s planned is earlier later later (stepped_as (sym none) (none_stepped (next_line r) new later amid)) limit shown

@@ -20,16 +20,18 @@ use Rattle.listeners.specs.declared.listener.Listener.{Listener}
 use Rattle.listeners.specs.declared.listeners.Listeners.{Listeners}
 use Rattle.replay_run.specs.declared.grid.Grid.{Grid}
 use Rattle.replay_run.specs.Runs.{Run, Appended, own_answer, event_to, events_to, told, listener_registered, rows_known, registered_reply, sends, registers}
-use Rattle.replay_run.specs.Printing.{new_messages, appended_text}
+use Rattle.replay_run.specs.Printing.{new_messages}
 use Rattle.replay_run.specs.Tables.{Table}
 use Rattle.replay_run.specs.Grids.{FormOf, HasTable, IsCounting, AreListening, Holds}
-use Rattle.replay_run.specs.WorldCalls.{texts_of, HasTold, HasRegistered, IsTo, first_events}
-use Rattle.replay_run.proofs.LineTexts.{new_with, texts-append}
+use Rattle.replay_run.specs.WorldCalls.{HasTold, HasRegistered, IsTo, first_events}
+use Rattle.replay_run.proofs.LineTexts.{new_with, told-append}
 use Rattle.replay_run.proofs.Listening.{more_listening}
 use Rattle.replay_run.proofs.TableRuns.{unanswered_table}
 use Rattle.replay_run.proofs.Releasing.{events_refuse_none}
 use Rattle.replay_run.proofs.Tallies.{quiet_tally}
 use Rattle.replay_run.proofs.WaiterLists.{waiters_alike}
+use Rattle.replay_run.specs.LineTold.{message_told, all_told}
+use Rattle.line_told.specs.declared.told.Told.{Told}
 
 -- one more of what is known of each number
 
@@ -69,7 +71,7 @@ module _ (settings : Settings) (r : Run) (conn member number : ℕ) (registratio
   next = registers o r conn member registration
 
   -- the grid once the answer was appended
-  module _ {V : Type 0} {T : V → Type 0} {form : FormOf V T} (mid : Grid V T) (written so_far : List ℕ) (did : HasTold form settings mid r conn number (registered_reply registration) written so_far) where
+  module _ {V : Type 0} {T : V → Type 0} {form : FormOf V T} (mid : Grid V T) (earlier so_far : List Told) (did : HasTold form settings mid r conn number (registered_reply registration) earlier so_far) where
     next_table : HasTable mid.connections next
     next_table =
         let listener = listener_on conn registration in
@@ -101,25 +103,25 @@ module _ (settings : Settings) (r : Run) (conn member number : ℕ) (registratio
         (ap (slice_get mid.listeners.items) (sym place) ∙ slice_get-get_or mid.listeners.items i before within ∙ ap Some (sym read)) added did.listeners in
         subst (λ j. AreListening (slice_set mid.listeners.items j now) next (Some conn)) (sym place) (record { size = more.size; each = more.each })
 
-    next_text : (text : List ℕ) → text ≡ so_far ++ texts_of (first_events o r conn member registration) → text ≡ written ++ texts_of (new_messages r next)
-    next_text text is =
+    next_told : (later : List Told) → later ≡ so_far ++ all_told (first_events o r conn member registration) → later ≡ earlier ++ all_told (new_messages r next)
+    next_told later is =
         let reply = own_answer r.lines conn (registered_reply registration) in
         let events = first_events o r conn member registration in
-        is ∙ ap (λ xs. xs ++ texts_of events) (did.added ∙ ap (λ ms. written ++ texts_of ms) (new_with r answered (reply ∷ []) refl))
-        ∙ append_assoc written (texts_of (reply ∷ [])) (texts_of events)
-        ∙ ap (λ xs. written ++ xs) (sym (texts-append (reply ∷ []) events))
-        ∙ ap (λ ms. written ++ texts_of ms) (sym (new_with r next (reply ∷ events) (append_assoc r.appended (reply ∷ []) events)))
+        is ∙ ap (λ xs. xs ++ all_told events) (did.added ∙ ap (λ ms. earlier ++ all_told ms) (new_with r answered (reply ∷ []) refl))
+        ∙ append_assoc earlier (all_told (reply ∷ [])) (all_told events)
+        ∙ ap (λ xs. earlier ++ xs) (sym (told-append (reply ∷ []) events))
+        ∙ ap (λ ms. earlier ++ all_told ms) (sym (new_with r next (reply ∷ events) (append_assoc r.appended (reply ∷ []) events)))
 
-    pub has_registered : (text : List ℕ) (new : Grid V T) (listeners : Vec Listeners Global) → new ≡ record mid { listeners = listeners } → text ≡ so_far ++ texts_of (first_events o r conn member registration)
+    pub has_registered : (later : List Told) (new : Grid V T) (listeners : Vec Listeners Global) → new ≡ record mid { listeners = listeners } → later ≡ so_far ++ all_told (first_events o r conn member registration)
         → (i : ℕ) → i ≡ member → i < length mid.listeners.items → (before now : Listeners) → before ≡ get_or mid.listeners.items i before
         → ((xs : List Listener) → StandFor before xs → StandFor now (placed (listener_on conn registration) xs)) → listeners.items ≡ slice_set mid.listeners.items i now
-        → HasRegistered form settings new r conn member number registration written text
-    has_registered text new listeners made is i at within before now read added placed_there = record {
+        → HasRegistered form settings new r conn member number registration earlier later
+    has_registered later new listeners made is i at within before now read added placed_there = record {
       holds = subst (λ g. Holds form settings g next) (sym made) (next_holds listeners);
       listeners = subst (λ (g : Grid V T). AreListening g.listeners.items next (Some conn)) (sym made)
           (subst (λ ls. AreListening ls next (Some conn)) (sym placed_there) (next_listening i at within before now read added));
       counting = subst (λ (g : Grid V T). IsCounting g.connections next conn (number + 1)) (sym made) (record { here = did.counting.here; others = did.counting.others });
-      added = next_text text is;
+      added = next_told later is;
     }
 
 -- where nothing more is sent: a listener of a map is sent no rows
@@ -129,17 +131,17 @@ none_first o r c member (Invalidations correlation name) other = refl
 none_first o r c member (Rows correlation) other = absurd (other correlation refl)
 
 -- where a connection listens to rows: the one event, of all that its member knows
-row_text : (line c : ℕ) (bytes : List ℕ) → texts_of (events_to line ((c, bytes) ∷ [])) ≡ appended_text (own_answer line c bytes)
-row_text line c bytes = append-nil (appended_text (own_answer line c bytes))
+row_told : (line c : ℕ) (bytes : List ℕ) → all_told (events_to line ((c, bytes) ∷ [])) ≡ message_told (own_answer line c bytes)
+row_told line c bytes = append-nil (message_told (own_answer line c bytes))
 
 first_is : (o : Object Request Partition) (r : Run) (c member : ℕ) (correlation : ℤ) → first_events o r c member (Rows correlation) ≡ events_to r.lines ((c, spelled (rows_frames correlation (rows_known o r member))) ∷ [])
 first_is o r c member correlation = refl
 
 pub first_rows : (o : Object Request Partition) (r : Run) (c member : ℕ) (registration : Registration) (correlation : ℤ) → registration ≡ Rows correlation → (line : ℕ) → line ≡ r.lines
     → (rows : List (ℕ × Row)) → rows ≡ rows_known o r member → (bytes : List ℕ) → bytes ≡ spelled (rows_frames correlation rows)
-    → (out text : List ℕ) → text ≡ out ++ appended_text (own_answer line c bytes) → text ≡ out ++ texts_of (first_events o r c member registration)
-first_rows o r c member registration correlation its line lines rows known bytes are out text is =
+    → (out later : List Told) → later ≡ out ++ message_told (own_answer line c bytes) → later ≡ out ++ all_told (first_events o r c member registration)
+first_rows o r c member registration correlation its line lines rows known bytes are out later is =
     let bytes_are = are ∙ ap (λ xs. spelled (rows_frames correlation xs)) known in
-    is ∙ (λ i. out ++ appended_text (own_answer (lines i) c (bytes_are i)))
-    ∙ ap (λ xs. out ++ xs) (sym (row_text r.lines c (spelled (rows_frames correlation (rows_known o r member)))))
-    ∙ ap (λ ms. out ++ texts_of ms) (sym (ap (λ x. first_events o r c member x) its ∙ first_is o r c member correlation))
+    is ∙ (λ i. out ++ message_told (own_answer (lines i) c (bytes_are i)))
+    ∙ ap (λ xs. out ++ xs) (sym (row_told r.lines c (spelled (rows_frames correlation (rows_known o r member)))))
+    ∙ ap (λ ms. out ++ all_told ms) (sym (ap (λ x. first_events o r c member x) its ∙ first_is o r c member correlation))

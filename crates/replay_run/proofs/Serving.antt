@@ -19,12 +19,12 @@ use Rattle.replay_run.specs.Printing.{new_messages}
 use Rattle.replay_run.specs.ScriptRuns.{IsRun}
 use Rattle.replay_run.specs.Tables.{Table, Opened, opened_at, lines_answered, answered, with_answer}
 use Rattle.replay_run.specs.Grids.{FormOf, IsSettled, IsCounting}
-use Rattle.replay_run.specs.WorldCalls.{texts_of, with_answers, Onward, GivesUpSo}
+use Rattle.replay_run.specs.WorldCalls.{with_answers, Onward, GivesUpSo}
 use Rattle.replay_run.specs.WaiterCalls.{IsBetween, handled_count, SameCounts, HasServed, by_turns, by_leaving}
 use Rattle.replay_run.proofs.EventRuns.{fewer, run_turns, served_run}
 use Rattle.replay_run.proofs.GivingUp.{stays_on, up_as, gives_up_first, gives_up_then}
 use Rattle.replay_run.proofs.Growing.{GoesBy, turn_goes, so_often_goes, served_goes, served_in_goes}
-use Rattle.replay_run.proofs.LineTexts.{new_with, texts_more}
+use Rattle.replay_run.proofs.LineTexts.{new_with, told_more}
 use Rattle.replay_run.proofs.RunFacts.{ArrivalsOk}
 use Rattle.replay_run.proofs.RunsOfLines.{run_ok}
 use Rattle.replay_run.proofs.SkipLaws.{both_go, both_among}
@@ -32,6 +32,8 @@ use Rattle.primary_hold.specs.declared.answer.CallAnswer.{CallAnswer}
 use Rattle.replay_run.proofs.TableChanges.{length-changed_at, opened_changed, opened_unchanged}
 use Rattle.replay_run.proofs.Trails.{find_some}
 use Rattle.replay_run.proofs.Turns.{so_often_keeps}
+use Rattle.replay_run.specs.LineTold.{all_told}
+use Rattle.line_told.specs.declared.told.Told.{Told}
 
 -- how many messages of each connection were handled
 
@@ -77,33 +79,33 @@ counts_answers line (answer ∷ answers) t c = counts_answers line answers (with
 -- step by step
 
 module _ {V : Type 0} {T : V → Type 0} {form : FormOf V T} {settings : Settings} (own : Option ℕ) where
-  pub served_nowhere : (grid : Grid V T) (r : Run) (text : List ℕ) → IsBetween form settings grid r own → HasServed form settings grid grid r own (λ s. r) text text
-  served_nowhere grid r text between = record {
+  pub served_nowhere : (grid : Grid V T) (r : Run) (later : List Told) → IsBetween form settings grid r own → HasServed form settings grid grid r own (λ s. r) later later
+  served_nowhere grid r later between = record {
     skips = [];
     among = λ id c. absurd (in_contains id [] c);
     between = between;
     counts = λ c. refl;
-    added = sym (ap (λ ms. text ++ texts_of ms) (new_with r r [] (sym (append-nil r.appended))) ∙ append-nil text);
+    added = sym (ap (λ ms. later ++ all_told ms) (new_with r r [] (sym (append-nil r.appended))) ∙ append-nil later);
   }
 
   -- the same by another name of where that leads
-  pub served_as : (old new : Grid V T) (r : Run) (f g : Onward) (written text : List ℕ) (a : HasServed form settings old new r own f written text) → f a.skips ≡ g a.skips → (c : HasServed form settings old new r own g written text) × (g c.skips ≡ f a.skips)
-  served_as old new r f g written text a same = (
+  pub served_as : (old new : Grid V T) (r : Run) (f g : Onward) (earlier later : List Told) (a : HasServed form settings old new r own f earlier later) → f a.skips ≡ g a.skips → (c : HasServed form settings old new r own g earlier later) × (g c.skips ≡ f a.skips)
+  served_as old new r f g earlier later a same = (
     record {
       skips = a.skips;
       among = subst (λ (x : Run). AreAmong (new_arrivals r x) a.skips) same a.among;
       between = subst (λ (x : Run). IsBetween form settings new x own) same a.between;
       counts = a.counts;
-      added = a.added ∙ ap (λ (x : Run). written ++ texts_of (new_messages r x)) same;
+      added = a.added ∙ ap (λ (x : Run). earlier ++ all_told (new_messages r x)) same;
     },
     sym same,
   )
 
   -- one step, and then another: both with the skips of either
-  module _ (old mid new : Grid V T) (r : Run) (first : Onward) (then : Run → Onward) (g : GoesBy r first) (h : (x : Run) → GoesBy x (then x)) (written so_far : List ℕ) (a : HasServed form settings old mid r own first written so_far) where
-    pub served_further : (text : List ℕ) (b : HasServed form settings mid new (first a.skips) own (then (first a.skips)) so_far text)
-        → (c : HasServed form settings old new r own (λ s. then (first s) s) written text) × (then (first c.skips) c.skips ≡ then (first a.skips) b.skips)
-    served_further text b =
+  module _ (old mid new : Grid V T) (r : Run) (first : Onward) (then : Run → Onward) (g : GoesBy r first) (h : (x : Run) → GoesBy x (then x)) (earlier so_far : List Told) (a : HasServed form settings old mid r own first earlier so_far) where
+    pub served_further : (later : List Told) (b : HasServed form settings mid new (first a.skips) own (then (first a.skips)) so_far later)
+        → (c : HasServed form settings old new r own (λ s. then (first s) s) earlier later) × (then (first c.skips) c.skips ≡ then (first a.skips) b.skips)
+    served_further later b =
         let now = first a.skips in
         let last = then now b.skips in
         let once : ArrivalsOk last = (run_ok b.between.run).of_arrivals in
@@ -117,10 +119,10 @@ module _ {V : Type 0} {T : V → Type 0} {form : FormOf V T} {settings : Setting
             counts = λ c. b.counts c ∙ a.counts c;
             added =
                 b.added
-                ∙ (λ i. a.added i ++ texts_of (new_with now last more.0 (sym more.1) i))
-                ∙ append_assoc written (texts_of (new_messages r now)) (texts_of more.0)
-                ∙ ap (λ xs. written ++ xs) (sym (texts_more r now last more.0 (g.grows a.skips).appended (sym more.1)))
-                ∙ ap (λ (x : Run). written ++ texts_of (new_messages r x)) (sym same);
+                ∙ (λ i. a.added i ++ all_told (new_with now last more.0 (sym more.1) i))
+                ∙ append_assoc earlier (all_told (new_messages r now)) (all_told more.0)
+                ∙ ap (λ xs. earlier ++ xs) (sym (told_more r now last more.0 (g.grows a.skips).appended (sym more.1)))
+                ∙ ap (λ (x : Run). earlier ++ all_told (new_messages r x)) (sym same);
           },
           same,
         )
@@ -186,8 +188,8 @@ turn_less o skips r own p member w next =
     omega (arith, less, same)
 
 -- So many turns of a list were made, and what they appended was printed.
-pub record HasTurned {V : Type 0} {T : V → Type 0} (form : FormOf V T) (settings : Settings) (old grid : Grid V T) (r : Run) (own : Option ℕ) (p member number : ℕ) (written text : List ℕ) : Type 0 where
-  pub on : HasServed form settings old grid r own (λ skips. served_so_often (partition_object settings) skips own p member number r) written text
+pub record HasTurned {V : Type 0} {T : V → Type 0} (form : FormOf V T) (settings : Settings) (old grid : Grid V T) (r : Run) (own : Option ℕ) (p member number : ℕ) (earlier later : List Told) : Type 0 where
+  pub on : HasServed form settings old grid r own (λ skips. served_so_often (partition_object settings) skips own p member number r) earlier later
   pub few : length (served_so_often (partition_object settings) on.skips own p member number r).waiters + number ≤ length r.waiters
 
 -- where turns lead
@@ -199,23 +201,23 @@ module _ (settings : Settings) (own : Option ℕ) (p member : ℕ) where
   one_turn x skips = turn_of (partition_object settings) skips x own (next_in_turn (partition_object settings) x p member)
 
 module _ {V : Type 0} {T : V → Type 0} {form : FormOf V T} {settings : Settings} (old : Grid V T) (r : Run) (own : Option ℕ) (p member : ℕ) where
-  pub none_turned : (text : List ℕ) → IsBetween form settings old r own → HasTurned form settings old old r own p member 0 text text
-  none_turned text between = record { on = served_nowhere own old r text between; few = omega arith }
+  pub none_turned : (later : List Told) → IsBetween form settings old r own → HasTurned form settings old old r own p member 0 later later
+  none_turned later between = record { on = served_nowhere own old r later between; few = omega arith }
 
-  module _ (grid : Grid V T) (number : ℕ) (written mid : List ℕ) (did : HasTurned form settings old grid r own p member number written mid) where
+  module _ (grid : Grid V T) (number : ℕ) (earlier mid : List Told) (did : HasTurned form settings old grid r own p member number earlier mid) where
     -- the run by then
     abbrev pub turned_so_far : Run
     turned_so_far = served_so_often (partition_object settings) did.on.skips own p member number r
 
     module _ (w : Waiter) (next : next_in_turn (partition_object settings) turned_so_far p member ≡ Some w) where
       -- One more leaves.
-      pub one_turned : (new : Grid V T) (text : List ℕ) → HasServed form settings grid new turned_so_far own (by_leaving settings turned_so_far own w) mid text → HasTurned form settings old new r own p member (number + 1) written text
-      one_turned new text b =
+      pub one_turned : (new : Grid V T) (later : List Told) → HasServed form settings grid new turned_so_far own (by_leaving settings turned_so_far own w) mid later → HasTurned form settings old new r own p member (number + 1) earlier later
+      one_turned new later b =
           let o = partition_object settings in
           let now = turned_so_far in
-          let step = served_as own grid new now (by_leaving settings now own w) (one_turn settings own p member now) mid text b (sym (ap (turn_of o b.skips now own) next)) in
-          let whole = served_further own old grid new r (so_often settings own p member number r) (one_turn settings own p member) (so_often_goes o own p member number r) (λ x. turn_goes o x own (next_in_turn o x p member)) written mid did.on text step.0 in
-          let all = served_as own old new r (λ s. one_turn settings own p member (so_often settings own p member number r s) s) (so_often settings own p member (number + 1) r) written text whole.0 (sym (often_more o whole.0.skips own p member r number)) in
+          let step = served_as own grid new now (by_leaving settings now own w) (one_turn settings own p member now) mid later b (sym (ap (turn_of o b.skips now own) next)) in
+          let whole = served_further own old grid new r (so_often settings own p member number r) (one_turn settings own p member) (so_often_goes o own p member number r) (λ x. turn_goes o x own (next_in_turn o x p member)) earlier mid did.on later step.0 in
+          let all = served_as own old new r (λ s. one_turn settings own p member (so_often settings own p member number r s) s) (so_often settings own p member (number + 1) r) earlier later whole.0 (sym (often_more o whole.0.skips own p member r number)) in
           let same = ap (λ (x : Run). length x.waiters) (all.1 ∙ whole.1) in
           let less = turn_less o step.0.skips now own p member w next in
           let before = did.few in
@@ -237,11 +239,11 @@ module _ {V : Type 0} {T : V → Type 0} {form : FormOf V T} {settings : Setting
           up_as r (λ s. so_often settings own p member (suc rest) (so_often settings own p member number r s) s) (by_turns settings r own p member) (λ s. sym (often_parts o s own p member r number (suc rest) (length r.waiters) e)) whole
 
     -- Nobody has a turn.
-    pub all_turned : next_in_turn (partition_object settings) turned_so_far p member ≡ None → HasServed form settings old grid r own (by_turns settings r own p member) written mid
+    pub all_turned : next_in_turn (partition_object settings) turned_so_far p member ≡ None → HasServed form settings old grid r own (by_turns settings r own p member) earlier mid
     all_turned none =
         let o = partition_object settings in
         let few : number ≤ length r.waiters = (let before = did.few in omega (arith, before)) in
-        (served_as own old grid r (so_often settings own p member number r) (by_turns settings r own p member) written mid did.on (sym (no_turn_left o did.on.skips own p member r number few none))).0
+        (served_as own old grid r (so_often settings own p member number r) (by_turns settings r own p member) earlier mid did.on (sym (no_turn_left o did.on.skips own p member r number few none))).0
 
 -- list after list of a member
 
@@ -267,19 +269,19 @@ abbrev its_list : Settings → ℕ → ℕ → Run → Onward
 its_list settings member n x = by_turns settings x None n member
 
 module _ {V : Type 0} {T : V → Type 0} {form : FormOf V T} {settings : Settings} (old : Grid V T) (r : Run) (member : ℕ) where
-  pub no_list : (text : List ℕ) → IsBetween form settings old r None → HasServed form settings old old r None (by_lists settings r member 0) text text
-  no_list text between = served_nowhere None old r text between
+  pub no_list : (later : List Told) → IsBetween form settings old r None → HasServed form settings old old r None (by_lists settings r member 0) later later
+  no_list later between = served_nowhere None old r later between
 
-  module _ (grid : Grid V T) (n : ℕ) (written mid : List ℕ) (did : HasServed form settings old grid r None (by_lists settings r member n) written mid) where
+  module _ (grid : Grid V T) (n : ℕ) (earlier mid : List Told) (did : HasServed form settings old grid r None (by_lists settings r member n) earlier mid) where
     -- the run by then
     abbrev pub served_so_far : Run
     served_so_far = served_in (partition_object settings) did.skips r member (numbers_below n)
 
-    pub one_list : (new : Grid V T) (text : List ℕ) → HasServed form settings grid new served_so_far None (by_turns settings served_so_far None n member) mid text → HasServed form settings old new r None (by_lists settings r member (n + 1)) written text
-    one_list new text b =
+    pub one_list : (new : Grid V T) (later : List Told) → HasServed form settings grid new served_so_far None (by_turns settings served_so_far None n member) mid later → HasServed form settings old new r None (by_lists settings r member (n + 1)) earlier later
+    one_list new later b =
         let o = partition_object settings in
-        let whole = served_further None old grid new r (by_lists settings r member n) (its_list settings member n) (served_in_goes o r member (numbers_below n)) (λ x. served_goes o x None n member) written mid did text b in
-        (served_as None old new r (λ s. its_list settings member n (by_lists settings r member n s) s) (by_lists settings r member (n + 1)) written text whole.0
+        let whole = served_further None old grid new r (by_lists settings r member n) (its_list settings member n) (served_in_goes o r member (numbers_below n)) (λ x. served_goes o x None n member) earlier mid did later b in
+        (served_as None old new r (λ s. its_list settings member n (by_lists settings r member n s) s) (by_lists settings r member (n + 1)) earlier later whole.0
         (sym (ap (λ k. served_in o whole.0.skips r member (numbers_below k)) (add-one n) ∙ served_in_more o whole.0.skips r member n))).0
 
     -- or one meets its partition full
@@ -293,10 +295,10 @@ module _ {V : Type 0} {T : V → Type 0} {form : FormOf V T} {settings : Setting
         (gives_up_first r (by_lists settings r member k) (λ x. by_turns settings x None k member) (served_in_goes o r member (numbers_below k)) (λ x. served_goes o x None k member) up))
         (suc n) m (omega (arith, l)) next
 
-  pub lists_at : (grid : Grid V T) (n m : ℕ) (written text : List ℕ) → n ≡ m → HasServed form settings old grid r None (by_lists settings r member n) written text → HasServed form settings old grid r None (by_lists settings r member m) written text
-  lists_at grid n m written text same = subst (λ k. HasServed form settings old grid r None (by_lists settings r member k) written text) same
+  pub lists_at : (grid : Grid V T) (n m : ℕ) (earlier later : List Told) → n ≡ m → HasServed form settings old grid r None (by_lists settings r member n) earlier later → HasServed form settings old grid r None (by_lists settings r member m) earlier later
+  lists_at grid n m earlier later same = subst (λ k. HasServed form settings old grid r None (by_lists settings r member k) earlier later) same
 
-  pub idle_lists : (ps : List ℕ) (text : List ℕ) → r.waiters ≡ [] → IsBetween form settings old r None → HasServed form settings old old r None (λ skips. served_in (partition_object settings) skips r member ps) text text
-  idle_lists ps text nobody between =
-      let its = served_nowhere None old r text between in
-      (served_as None old old r (λ s. r) (λ s. served_in (partition_object settings) s r member ps) text text its (sym (none_served (partition_object settings) its.skips r member ps nobody))).0
+  pub idle_lists : (ps : List ℕ) (later : List Told) → r.waiters ≡ [] → IsBetween form settings old r None → HasServed form settings old old r None (λ skips. served_in (partition_object settings) skips r member ps) later later
+  idle_lists ps later nobody between =
+      let its = served_nowhere None old r later between in
+      (served_as None old old r (λ s. r) (λ s. served_in (partition_object settings) s r member ps) later later its (sym (none_served (partition_object settings) its.skips r member ps nobody))).0

@@ -14,7 +14,7 @@ use Rattle.replay_run.specs.declared.grid.Grid.{Grid}
 use Rattle.replay_run.specs.Endings.{new_arrivals, AreAmong}
 use Rattle.replay_run.specs.Runs.{Run, Waiter, world_at, meets_full, stirred_by, occurred, served_at, served, takes, is_its_turn}
 use Rattle.replay_run.specs.Grids.{FormOf, HasWaiters}
-use Rattle.replay_run.specs.WorldCalls.{texts_of, HasRoomAt, IsAmid, HasGoneOn, GivesUpSo, HasOccurred, HasTaken}
+use Rattle.replay_run.specs.WorldCalls.{HasRoomAt, IsAmid, HasGoneOn, GivesUpSo, HasOccurred, HasTaken}
 use Rattle.replay_run.specs.WaiterCalls.{IsBetween, HasServed, by_turns}
 use Rattle.replay_run.proofs.EventRuns.{events_more, takes_here, takes_nothing, served_kept}
 use Rattle.replay_run.proofs.Flowing.{gone_further, gone_as}
@@ -23,6 +23,8 @@ use Rattle.replay_run.proofs.LineTexts.{new_with}
 use Rattle.replay_run.proofs.Lookups.{find_none}
 use Rattle.replay_run.proofs.Places.{same_number}
 use Rattle.replay_run.proofs.Serving.{first_holds, second_holds, settled_by, often_none}
+use Rattle.replay_run.specs.LineTold.{all_told}
+use Rattle.line_told.specs.declared.told.Told.{Told}
 
 -- Nobody waits at a member that isn't there.
 pub nobody_there : (o : Object Request Partition) (skips : List CallId) (lists : List (List ListedWaiter)) (r : Run) (own : Option ℕ) (p member : ℕ) → HasWaiters lists r → (member < r.members → ⊥) → served o skips r own p member ≡ r
@@ -45,7 +47,7 @@ turn_room o r p event room = let more = events_more p r.events (record { partiti
 pub met_full : (o : Object Request Partition) (r : Run) (p : ℕ) (event : Event Request) → meets_full (world_at o r p) event ≡ true → GivesUpSo r (λ skips. takes o skips r p event)
 met_full o r p event full = record { skips = []; own = λ id c. absurd (in_contains id [] c); full = takes_nothing o [] r p event full }
 
-module _ {V : Type 0} {T : V → Type 0} {form : FormOf V T} {settings : Settings} (mid : Grid V T) (r : Run) (p : ℕ) (event : Event Request) (happened : Happened) (written so_far : List ℕ) (did : HasOccurred form settings mid r p event happened written so_far) where
+module _ {V : Type 0} {T : V → Type 0} {form : FormOf V T} {settings : Settings} (mid : Grid V T) (r : Run) (p : ℕ) (event : Event Request) (happened : Happened) (earlier so_far : List Told) (did : HasOccurred form settings mid r p event happened earlier so_far) where
   abbrev o : Object Request Partition
   o = partition_object settings
 
@@ -56,27 +58,27 @@ module _ {V : Type 0} {T : V → Type 0} {form : FormOf V T} {settings : Setting
   stirs_so skips stirred is = takes_here o skips r p event did.goes ∙ ap (served_at o skips next p) is
 
   -- It goes on without a turn.
-  taken_so : ((skips : List CallId) → takes o skips r p event ≡ next) → HasTaken form settings mid r p event happened written so_far
+  taken_so : ((skips : List CallId) → takes o skips r p event ≡ next) → HasTaken form settings mid r p event happened earlier so_far
   taken_so same = record {
     on = record { skips = []; own = λ id c. absurd (in_contains id [] c); on = gone_as (sym (same [])) did.on };
     outcome = did.outcome;
   }
 
   -- It stirs nobody.
-  pub taken_quietly : stirred_by event ≡ None → HasTaken form settings mid r p event happened written so_far
+  pub taken_quietly : stirred_by event ≡ None → HasTaken form settings mid r p event happened earlier so_far
   taken_quietly none = taken_so (λ skips. stirs_so skips None none)
 
-  pub taken_nowhere : (member : ℕ) → stirred_by event ≡ Some member → (member < r.members → ⊥) → HasTaken form settings mid r p event happened written so_far
+  pub taken_nowhere : (member : ℕ) → stirred_by event ≡ Some member → (member < r.members → ⊥) → HasTaken form settings mid r p event happened earlier so_far
   taken_nowhere member some out = taken_so (λ skips. stirs_so skips (Some member) some ∙ nobody_there o skips mid.waiters next None p member did.on.amid.holds.waiters out)
 
   module _ (member : ℕ) (some : stirred_by event ≡ Some member) where
     -- Those whom it stirs had their turns.
-    pub taken_stirring : (new : Grid V T) (text : List ℕ) → HasServed form settings mid new next None (by_turns settings next None p member) so_far text → HasTaken form settings new r p event happened written text
-    taken_stirring new text b =
+    pub taken_stirring : (new : Grid V T) (later : List Told) → HasServed form settings mid new next None (by_turns settings next None p member) so_far later → HasTaken form settings new r p event happened earlier later
+    taken_stirring new later b =
         let last = served o b.skips next None p member in
         let same : takes o b.skips r p event ≡ last = stirs_so b.skips (Some member) some in
         let more = ((served_goes o next None p member).grows b.skips).appended in
-        let on : HasGoneOn form settings new next last so_far text = record {
+        let on : HasGoneOn form settings new next last so_far later = record {
           amid = record {
             run = b.between.run;
             holds = b.between.holds;
@@ -85,13 +87,13 @@ module _ {V : Type 0} {T : V → Type 0} {form : FormOf V T} {settings : Setting
           };
           messages = more.0;
           appended = sym more.1;
-          added = b.added ∙ ap (λ ms. so_far ++ texts_of ms) (new_with next last more.0 (sym more.1));
+          added = b.added ∙ ap (λ ms. so_far ++ all_told ms) (new_with next last more.0 (sym more.1));
         } in
         record {
           on = record {
             skips = b.skips;
             own = subst (λ (x : Run). AreAmong (new_arrivals r x) b.skips) (sym same) b.among;
-            on = gone_as (sym same) (gone_further mid new r next last written so_far text did.on on);
+            on = gone_as (sym same) (gone_further mid new r next last earlier so_far later did.on on);
           };
           outcome = did.outcome;
         }

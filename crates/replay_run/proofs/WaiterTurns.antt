@@ -28,6 +28,7 @@ use Rattle.replay_run.proofs.Places.{same_number}
 use Rattle.replay_run.proofs.Serving.{first_holds, second_holds, gone_from, HasTurned, turned_so_far}
 use Rattle.replay_run.proofs.Trails.{find_some}
 use Rattle.replay_run.proofs.Turns.{KeepsTurns, by_endings, leaving_keeps, so_often_keeps, served_keeps}
+use Rattle.line_told.specs.declared.told.Told.{Told}
 
 -- room
 
@@ -104,8 +105,8 @@ module _ {V : Type 0} {T : V → Type 0} {form : FormOf V T} {settings : Setting
       }
 
   -- To take it out handles no message.
-  pub served_since : (new : Grid V T) (onward : Onward) (written text : List ℕ) → HasServed form settings taken new r own onward written text → HasServed form settings grid new r own onward written text
-  served_since new onward written text did = record {
+  pub served_since : (new : Grid V T) (onward : Onward) (earlier later : List Told) → HasServed form settings taken new r own onward earlier later → HasServed form settings grid new r own onward earlier later
+  served_since new onward earlier later did = record {
     skips = did.skips;
     among = did.among;
     between = did.between;
@@ -136,18 +137,18 @@ module _ (o : Object Request Partition) (skips : List CallId) (r : Run) (own : O
 
 -- so many turns were made
 
-module _ {V : Type 0} {T : V → Type 0} {form : FormOf V T} {settings : Settings} (old grid : Grid V T) (r : Run) (own : Option ℕ) (p member number : ℕ) (written text : List ℕ) (did : HasTurned form settings old grid r own p member number written text) where
+module _ {V : Type 0} {T : V → Type 0} {form : FormOf V T} {settings : Settings} (old grid : Grid V T) (r : Run) (own : Option ℕ) (p member number : ℕ) (earlier later : List Told) (did : HasTurned form settings old grid r own p member number earlier later) where
   abbrev turned : Run
-  turned = turned_so_far old r own p member grid number written text did
+  turned = turned_so_far old r own p member grid number earlier later did
 
   pub members_still : IsBetween form settings old r own → grid.members ≡ old.members
   members_still between = did.on.between.holds.members ∙ (often_kept (partition_object settings) did.on.skips r own p member number).members ∙ sym between.holds.members
 
-  pub turned_room : HasRoomAt r p 0 → HasRoomAt (turned_so_far old r own p member grid number written text did) p 0
+  pub turned_room : HasRoomAt r p 0 → HasRoomAt (turned_so_far old r own p member grid number earlier later did) p 0
   turned_room room = often_room (partition_object settings) did.on.skips r own p member number p 0 room
 
   -- Nobody was left to be taken out.
-  abbrev pub turned_still : (taken : Grid V T) → taken ≡ record grid { waiters = taken.waiters } → Holds form settings taken (turned_so_far old r own p member grid number written text did) → HasTurned form settings old taken r own p member number written text
+  abbrev pub turned_still : (taken : Grid V T) → taken ≡ record grid { waiters = taken.waiters } → Holds form settings taken (turned_so_far old r own p member grid number earlier later did) → HasTurned form settings old taken r own p member number earlier later
   turned_still taken rest holds = record {
     on = record {
       skips = did.on.skips;
@@ -160,9 +161,9 @@ module _ {V : Type 0} {T : V → Type 0} {form : FormOf V T} {settings : Setting
   }
 
 -- list after list
-pub lists_members : {V : Type 0} {T : V → Type 0} {form : FormOf V T} {settings : Settings} (old grid : Grid V T) (r : Run) (member n : ℕ) (written text : List ℕ) → HasServed form settings old grid r None (λ skips. served_in (partition_object settings) skips r member (numbers_below n)) written text
+pub lists_members : {V : Type 0} {T : V → Type 0} {form : FormOf V T} {settings : Settings} (old grid : Grid V T) (r : Run) (member n : ℕ) (earlier later : List Told) → HasServed form settings old grid r None (λ skips. served_in (partition_object settings) skips r member (numbers_below n)) earlier later
     → IsBetween form settings old r None → grid.members ≡ old.members
-lists_members {settings = settings} old grid r member n written text did between = did.between.holds.members ∙ (served_in_kept (partition_object settings) did.skips r member (numbers_below n)).members ∙ sym between.holds.members
+lists_members {settings = settings} old grid r member n earlier later did between = did.between.holds.members ∙ (served_in_kept (partition_object settings) did.skips r member (numbers_below n)).members ∙ sym between.holds.members
 
 -- what becomes of it, as the code tells it
 pub may_as : {V : Type 0} {T : V → Type 0} {form : FormOf V T} {settings : Settings} {grid : Grid V T} {r : Run} {at : Spot} {own : Option ℕ} {turn other : Turn} {w : Waiter} → turn ≡ other → MayLeave form settings grid r at own turn w → MayLeave form settings grid r at own other w

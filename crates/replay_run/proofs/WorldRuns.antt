@@ -16,6 +16,7 @@ use Rattle.replay_run.specs.Runs.{Run, Arrival, call_of, events_at, world_at}
 use Rattle.replay_run.specs.Shelves.{grid_meaning}
 use Rattle.replay_run.specs.Grids.{GridWorld, StandsForEvents, IsWorld, HasWorld}
 use Rattle.replay_run.specs.WorldCalls.{IsCalled, IsSkipped}
+use Rattle.line_told.specs.declared.told.Told.{Told}
 use Rattle.replay_run.proofs.Arriving.{its_event, maybe_one, events_of_more}
 use Rattle.replay_run.proofs.GivingOut.{HasGivenOut}
 use Rattle.replay_run.proofs.RunFacts.{is_of}
@@ -65,7 +66,7 @@ module _ {settings : Settings} (ws : List GridWorld) (r : Run) (a : Arrival) (ne
   none_waits called out others member = ⊎_elim (λ e. subst (λ m. waiting new m ≡ []) (sym e) out.given) (λ apart. out.others member apart ∙ others member apart) (cases_eq member a.member)
 
   -- the call is an event of its partition
-  module _ (called : GridWorld) (added : List ℕ) (did : IsCalled settings old.world called (events_at a.request.partition r.events) a added) (out : HasGivenOut settings called new a.member) (events : next.events ≡ r.events ++ its_event a ∷ []) where
+  module _ (called : GridWorld) (added : List Told) (did : IsCalled settings old.world called (events_at a.request.partition r.events) a added) (out : HasGivenOut settings called new a.member) (events : next.events ≡ r.events ++ its_event a ∷ []) where
     its_partition : (q : ℕ) → events_at q next.events ≡ events_at q r.events ++ maybe_one (is_of q a) (call_of a)
     its_partition q = ap (events_at q) events ∙ events_of_more q r.events a
 
@@ -99,7 +100,7 @@ module _ {settings : Settings} (ws : List GridWorld) (r : Run) (a : Arrival) (ne
     called_worlds = worlds_with not_elsewhere called_one (none_waits called out others_wait_for_none)
 
   -- the call found no memory
-  module _ (called : GridWorld) (added : List ℕ) (did : IsSkipped settings old.world called (events_at a.request.partition r.events) a added) (out : HasGivenOut settings called new a.member) (events : next.events ≡ r.events) where
+  module _ (called : GridWorld) (added : List Told) (did : IsSkipped settings old.world called (events_at a.request.partition r.events) a added) (out : HasGivenOut settings called new a.member) (events : next.events ≡ r.events) where
     same_everywhere : (q : ℕ) → events_at q next.events ≡ events_at q r.events
     same_everywhere q = ap (events_at q) events
 

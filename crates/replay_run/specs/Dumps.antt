@@ -1,10 +1,10 @@
--- Words of a line's text, and the text of the objects that a dump prints.
+-- The text of the objects that a dump prints.
 use Rattle.std.specs.Prelude.{ℕ, List, [], ◌∷◌, ◌++◌, Option, Some, None, codes, decimal}
 use Rattle.std.specs.Int.{w128, to_be_bytes}
 use Rattle.std.specs.Fmt.{signed_decimal}
 use Rattle.std.specs.List.{flat_map}
-use Rattle.hex.specs.Hex.{encode_lower}
 use Rattle.uuid.specs.Text.{lower, hyphenated_text}
+pub use Rattle.line_told.specs.Words.{word, number, line_end, hex_word, dash, number_or_dash, value_text}
 use Rattle.grid_base.specs.declared.names.ClientKey.{ClientKey}
 use Rattle.grid_base.specs.declared.names.ClientKey.TheVariants.{Known, OfConn}
 use Rattle.grid_base.specs.declared.names.ObjectKey.{ObjectKey}
@@ -14,31 +14,6 @@ use Rattle.map_records.specs.declared.records.Idle.{Idle}
 use Rattle.map_records.specs.declared.records.MapRecord.{MapRecord}
 use Rattle.object_store.specs.Records.{Record, entry_in, items_in}
 use Rattle.object_store.specs.Partitions.{Partition, stored_in}
-
--- A word has a space behind it.
-abbrev pub word : List ℕ → List ℕ
-word text = text ++ 32 ∷ []
-
-abbrev pub number : ℕ → List ℕ
-number n = word (decimal n)
-
-abbrev pub line_end : List ℕ
-line_end = 10 ∷ []
-
--- bytes that may be none are `x` and their hexadecimal
-abbrev pub hex_word : List ℕ → List ℕ
-hex_word bytes = 120 ∷ encode_lower bytes
-
-abbrev pub dash : List ℕ
-dash = codes "-"
-
-abbrev pub number_or_dash : Option ℕ → List ℕ
-number_or_dash None = word dash
-number_or_dash (Some n) = number n
-
-abbrev pub value_text : Option (List ℕ) → List ℕ
-value_text None = dash
-value_text (Some value) = hex_word value
 
 -- a client's own number as a UUID, or its connection
 abbrev pub client_text : ClientKey → List ℕ

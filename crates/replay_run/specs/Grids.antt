@@ -31,7 +31,10 @@ use Rattle.replay_run.specs.AfterLines.{after_line}
 use Rattle.replay_run.specs.Counts.{is_refused, is_out_of_memory}
 use Rattle.replay_run.specs.Rebalancing.{most_line_events}
 use Rattle.replay_run.specs.Shelves.{grid_meaning}
-use Rattle.replay_run.specs.Printing.{answer_of, came_at, line_text}
+use Rattle.replay_run.specs.Printing.{answer_of, came_at}
+use Rattle.line_told.specs.declared.told.Told.{Told}
+use Rattle.line_told.specs.declared.told.Ready.{Ready}
+use Rattle.replay_run.specs.LineTold.{line_told, line_printed}
 use Rattle.replay_run.specs.ScriptRuns.{IsRun}
 use Rattle.replay_run.specs.Skips.{AreOfLine}
 use Rattle.replay_run.specs.Tables.{Table, Opened, most_connections, opened_at, lines_of}
@@ -185,12 +188,17 @@ pub record MayRun {V : Type 0} {T : V → Type 0} (form : FormOf V T) (grid : Gr
   pub next : number ≡ run.lines + 1
   pub within : number ≤ most_lines
 
--- The line ran: the grid stands for the run after it, and its text was added. Its calls were skipped that found no memory.
-pub record HasRun {V : Type 0} {T : V → Type 0} (form : FormOf V T) (settings : Settings) (new : Grid V T) (r : Run) (line : Line) (written text : List ℕ) : Type 0 where
+-- The line ran: the grid stands for the run after it, and what it tells was added. Its calls were skipped that found no memory.
+pub record HasRun {V : Type 0} {T : V → Type 0} (form : FormOf V T) (settings : Settings) (new : Grid V T) (r : Run) (line : Line) (earlier later : List Told) : Type 0 where
   pub skips : List CallId
   pub of_line : AreOfLine (partition_object settings) r line skips
   pub stands : Stands form settings new (after_line (partition_object settings) skips r line)
-  pub added : text ≡ written ++ line_text settings skips r line (after_line (partition_object settings) skips r line)
+  pub added : later ≡ earlier ++ line_told settings skips r line (after_line (partition_object settings) skips r line)
+
+-- It ran, and what it wrote as it went was added too.
+pub record HasGiven {V : Type 0} {T : V → Type 0} (form : FormOf V T) (settings : Settings) (new : Grid V T) (r : Run) (line : Line) (earlier later : Ready) : Type 0 where
+  pub told : HasRun form settings new r line earlier.told.items later.told.items
+  pub printed : later.printed.items ≡ earlier.printed.items ++ line_printed settings r line
 
 -- The run is given up at the line, of whose calls these found no memory: an event met a full partition.
 pub record IsGivenUp (settings : Settings) (r : Run) (line : Line) : Type 0 where

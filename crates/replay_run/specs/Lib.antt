@@ -1,11 +1,13 @@
 pub mod AfterLines
 pub mod Appending
+pub mod AsText
 pub mod ByMachine
 pub mod Changes
 pub mod Counts
 pub mod Dumps
 pub mod Endings
 pub mod Grids
+pub mod LineTold
 pub mod Linearizability
 pub mod PrintedEntries
 pub mod Printing

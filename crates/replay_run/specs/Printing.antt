@@ -1,5 +1,5 @@
 -- The text of a line's outcome and of what happened at it.
-use Rattle.std.specs.Prelude.{ℕ, ◌+◌, Bool, true, false, not, List, [], ◌∷◌, ◌++◌, length, drop, sum_by, count_by, Option, Some, None, is_some, option_map, unwrap_or, if◌then◌else◌, codes, decimal}
+use Rattle.std.specs.Prelude.{ℕ, ◌+◌, Bool, true, false, not, List, [], ◌∷◌, ◌++◌, length, drop, sum_by, count_by, Option, Some, None, is_some, option_map, unwrap_or, if◌then◌else◌, codes}
 use Rattle.std.specs.Option.{option_or}
 use Rattle.std.specs.List.{find, flat_map}
 use Rattle.hex.specs.Hex.{encode_lower}
@@ -13,12 +13,9 @@ use Rattle.grid_base.specs.declared.calls.QueueCall.TheVariants.{Offer, Poll, Pe
 use Rattle.grid_base.specs.declared.calls.GridCall.{GridCall}
 use Rattle.grid_base.specs.declared.calls.GridCall.TheVariants as call
 use Rattle.grid_base.specs.declared.calls.Request.{Request}
-use Rattle.partition_protocol.specs.Node.{Pair}
 use Rattle.partition_protocol.specs.History.{Executed, Entry, Called, Reset as Opened}
 use Rattle.partition_protocol.specs.World.{trail}
 use Rattle.partition_protocol.specs.Service.{numbers_below}
-use Rattle.partition_protocol.specs.Took.{Took, Adopted, Synced, Applied, Bridged, Acked, Frozen, Joined, Drained, Already, Gap, Other, Stale, Dropped}
-use Rattle.partition_protocol.specs.Service.{MoveRefused, Lost, NotIdle, NotThere, AlreadyThere, NotLive, NotEligible, ReopenRefused, NotLost, NoMember}
 use Rattle.partition_protocol.specs.Events.{Event, Outcome, NothingDone, Done, TookMessage, RowMadeAt, MoveIsRefused, ReopenIsRefused, happens}
 use Rattle.partition_protocol.specs.Events as event
 use Rattle.call_engine.specs.Calls.{Settings}
@@ -26,6 +23,9 @@ use Rattle.call_engine.specs.Objects.{target_of, partition_object}
 use Rattle.object_store.specs.Partitions.{Partition}
 use Rattle.partition_world.specs.ContentsOf.{pair_at, contents_at}
 use Rattle.partition_world.specs.Sending.{flying}
+pub use Rattle.line_told.specs.Words.{words_line}
+pub use Rattle.line_told.specs.Outcomes.{refusal_words, took_word, move_refused_word, reopen_refused_word, words_of}
+pub use Rattle.line_told.specs.Printing.{ok_text, nothing_text, trail_text, dump_text, flow_text, links_text, fault_word, fault_text}
 use Rattle.replay_run.specs.Dumps.{word, number, line_end, hex_word, number_or_dash, object_words, dumped_text}
 pub use Rattle.replay_run.specs.Appending.{appended_text, new_messages}
 use Rattle.replay_run.specs.Rebalancing.{plan_in, steps_in}
@@ -38,8 +38,6 @@ use Rattle.partition_world.specs.declared.Link.{Link}
 use Rattle.script_lang.specs.declared.line.Line.{Line}
 use Rattle.script_lang.specs.declared.line.Line.TheVariants.{Grid, OpenConn, Arrive, Flow, FlowAll, Crash, Detect, Rebalance, Dump, Links, Trail, Near, NearGet, NearFeed, Masters, Told, MasterDeliver, MasterLose, MasterResend, MasterFlow, End}
 use Rattle.frame_codec.specs.declared.malformed.Malformed.{Malformed}
-use Rattle.frame_codec.specs.declared.malformed.Why.{Why}
-use Rattle.frame_codec.specs.declared.malformed.Why.TheVariants.{Prefix, TooShort, TooLong, BadFragment, OpenFragments, ManyFrames, LongMessage, ShortStart, Spent}
 
 -- a call in a trail: its place there, the lines at which it arrived and was answered, and the reply
 pub record PrintedCall : Type 0 where
@@ -111,9 +109,6 @@ all_entries o r = flat_map (entries_of o r) (numbers_below partitions)
 
 -- text
 
-abbrev pub ok_text : ℕ → List ℕ
-ok_text line = number line ++ codes "ok" ++ line_end
-
 abbrev pub map_call_name : MapCall → List ℕ
 map_call_name (Put name key owner value ttl) = codes "put"
 map_call_name (Set name key owner value ttl) = codes "set"
@@ -153,76 +148,15 @@ entry_text line (Call e) =
     ++ word (call_name e.request.call) ++ object_words (target_of e.request) ++ hex_word e.reply ++ line_end
 entry_text line (Reset e) = number line ++ codes "entry " ++ number e.partition ++ number e.place ++ codes "- - " ++ number e.line ++ codes "- - reset - - -" ++ line_end
 
--- the word of a fault
-abbrev pub fault_word : Why → List ℕ
-fault_word Prefix = codes "prefix"
-fault_word TooShort = codes "tooshort"
-fault_word TooLong = codes "toolong"
-fault_word BadFragment = codes "badfragment"
-fault_word OpenFragments = codes "openfragments"
-fault_word ManyFrames = codes "manyframes"
-fault_word LongMessage = codes "longmessage"
-fault_word ShortStart = codes "shortstart"
-fault_word Spent = codes "spent"
-
 -- `I close C AT WHY`
 abbrev pub close_text : ℕ → ℕ → Option Malformed → List ℕ
 close_text line c None = []
-close_text line c (Some fault) = number line ++ codes "close " ++ number c ++ number fault.at ++ fault_word fault.why ++ line_end
-
-abbrev pub nothing_text : ℕ → List ℕ
-nothing_text line = number line ++ codes "nothing" ++ line_end
-
--- What an event came to, in words.
-
--- a refusal for a reason
-abbrev pub refusal_words : List ℕ → List ℕ
-refusal_words why = codes "refused " ++ why
-
--- how a message was taken
-abbrev pub took_word : Took → List ℕ
-took_word Adopted = codes "adopted"
-took_word Synced = codes "synced"
-took_word Applied = codes "applied"
-took_word Bridged = codes "bridged"
-took_word Acked = codes "acked"
-took_word Frozen = codes "frozen"
-took_word Joined = codes "joined"
-took_word Drained = codes "drained"
-took_word Already = codes "already"
-took_word Gap = codes "gap"
-took_word Other = codes "other"
-took_word Stale = codes "stale"
-took_word Dropped = codes "dropped"
-
--- why a move, a join or a handover wasn't begun
-abbrev pub move_refused_word : MoveRefused → List ℕ
-move_refused_word Lost = codes "lost"
-move_refused_word NotIdle = codes "notidle"
-move_refused_word NotThere = codes "notthere"
-move_refused_word AlreadyThere = codes "alreadythere"
-move_refused_word NotLive = codes "notlive"
-move_refused_word NotEligible = codes "noteligible"
-
--- why a partition wasn't reopened
-abbrev pub reopen_refused_word : ReopenRefused → List ℕ
-reopen_refused_word NotLost = codes "notlost"
-reopen_refused_word NoMember = codes "nomember"
+close_text line c (Some fault) = fault_text line c fault
 
 -- An advance that makes no row freezes the move's source.
 abbrev pub done_word : Event Request → List ℕ
 done_word event.Advance = codes "freezing"
 done_word event = codes "ok"
-
--- with the word of an event that is done
-abbrev pub words_of : List ℕ → Outcome → List ℕ
-words_of done NothingDone = codes "nothing"
-words_of done Done = done
-words_of done (TookMessage took) = codes "took " ++ took_word took
-words_of done (RowMadeAt version) = codes "row " ++ decimal version
-words_of done (MoveIsRefused why) = refusal_words (move_refused_word why)
-words_of done (ReopenIsRefused why) = refusal_words (reopen_refused_word why)
-words_of done outcome = codes "ok"
 
 -- of a crash or a detection, which are done or not, whether or not a row is made
 abbrev pub fate_words : Outcome → List ℕ
@@ -233,9 +167,6 @@ fate_words outcome = codes "nothing"
 -- what an event comes to at a partition
 abbrev pub outcome_at : {State : Type 0} → Object Request State → Run → ℕ → Event Request → Outcome
 outcome_at o r p event = (happens o (world_at o r p) event).outcome
-
-abbrev pub words_line : ℕ → List ℕ → List ℕ
-words_line line words = number line ++ words ++ line_end
 
 -- whether a line's condition is false, where it is no event's; the grid by itself has no near clients, and no masters
 abbrev pub does_nothing : {State : Type 0} → Object Request State → Run → Line → Bool
@@ -258,18 +189,6 @@ printed_by o after (Trail p) = entries_of o after p
 printed_by o after End = all_entries o after
 printed_by o after line = []
 
--- `I trail N`: how many entries a trail has
-abbrev pub trail_text : ℕ → ℕ → List ℕ
-trail_text line entries = number line ++ codes "trail " ++ decimal entries ++ line_end
-
--- `I dump VERSION COUNT`: the version of what a member has, and how many effects it counts
-abbrev pub dump_text : ℕ → Pair → List ℕ
-dump_text line pair = number line ++ codes "dump " ++ number pair.version ++ decimal pair.count ++ line_end
-
--- `I flow N`: how many messages were delivered, each by an event of its own
-abbrev pub flow_text : ℕ → ℕ → List ℕ
-flow_text line deliveries = number line ++ codes "flow " ++ decimal deliveries ++ line_end
-
 abbrev pub new_events : Run → Run → List At
 new_events before after = drop (length before.events) after.events
 
@@ -283,10 +202,6 @@ deliveries before after = count_by is_delivery (new_events before after)
 -- the messages in flight on a link of a partition, as their bytes
 abbrev pub bytes_on : Settings → Run → ℕ → Link → List (List ℕ)
 bytes_on settings r p l = flying (grid_meaning settings) (world_at (partition_object settings) r p) l.from l.to
-
--- `I links N`: how many messages are in flight
-abbrev pub links_text : ℕ → ℕ → List ℕ
-links_text line messages = number line ++ codes "links " ++ decimal messages ++ line_end
 
 abbrev pub in_flight : Settings → Run → ℕ → ℕ
 in_flight settings r p = sum_by (λ l. length (bytes_on settings r p l)) (links_of r.members)

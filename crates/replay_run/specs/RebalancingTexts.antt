@@ -1,28 +1,19 @@
 -- The text of the line `rebalance K`: the whole plan, and then what each of its first K steps appended, and how the step ended.
-use Rattle.std.specs.Prelude.{ℕ, Bool, true, false, List, [], ◌∷◌, ◌++◌, length, codes, decimal}
+use Rattle.std.specs.Prelude.{ℕ, List, [], ◌∷◌, ◌++◌, length, codes, decimal}
 use Rattle.std.specs.List.{flat_map}
 use Rattle.grid_base.specs.Objects.{Object}
 use Rattle.grid_base.specs.declared.calls.Request.{Request}
 use Rattle.grid_base.specs.declared.names.CallId.{CallId}
 use Rattle.object_store.specs.Partitions.{Partition}
 use Rattle.rebalance.specs.declared.Step.{Step}
-use Rattle.rebalance.specs.declared.StepKind.{StepKind}
-use Rattle.rebalance.specs.declared.StepKind.TheVariants.{Move, Handover}
 use Rattle.rebalance.specs.Plans.{Planned, NoMember, Unsettled, Balanced}
-use Rattle.replay_run.specs.Dumps.{number, line_end}
+pub use Rattle.line_told.specs.Printing.{kind_word, step_text, end_word, end_text}
+use Rattle.line_told.specs.Words.{number, line_end}
 use Rattle.replay_run.specs.Appending.{appended_text, new_messages}
 use Rattle.replay_run.specs.Runs.{Run}
 use Rattle.replay_run.specs.Rebalancing.{is_moving_at, stepped}
 
 -- the plan
-
-abbrev pub kind_word : StepKind → List ℕ
-kind_word Move = codes "move"
-kind_word Handover = codes "handover"
-
--- `I step P F T KIND`: partition P goes from member F to member T
-abbrev pub step_text : ℕ → Step → List ℕ
-step_text line step = number line ++ codes "step " ++ number step.partition ++ number step.from ++ number step.to ++ kind_word step.kind ++ line_end
 
 -- `I plan N`, and its steps
 abbrev pub steps_text : ℕ → List Step → List ℕ
@@ -35,14 +26,6 @@ plan_text line (Unsettled partition) = number line ++ codes "refused unsettled "
 plan_text line (Balanced plan) = steps_text line plan.steps
 
 -- the steps that are run
-
--- `I done P`, or `I open P` where a move is still under way
-abbrev pub end_word : Bool → List ℕ
-end_word true = codes "open "
-end_word false = codes "done "
-
-abbrev pub end_text : ℕ → ℕ → Bool → List ℕ
-end_text line partition moving = number line ++ end_word moving ++ decimal partition ++ line_end
 
 -- each step's messages stand before its end
 abbrev pub ran_text : Object Request Partition → List CallId → Run → Step → List ℕ

@@ -33,6 +33,7 @@ use Rattle.session_core.specs.declared.item.Item.TheVariants.{Call as Asks, Wait
 use Rattle.script_lang.specs.declared.line.Line.{Line}
 use Rattle.script_lang.specs.declared.line.Line.TheVariants.{Deliver, Lose, Repeat, Resend, Move, Join, Handover, Advance, Reopen}
 use Rattle.partition_world.specs.declared.Link.{Link}
+pub use Rattle.line_told.specs.declared.told.Appended.{Appended}
 use Rattle.waiting_protocol.specs.Machine.{Fate, Stays, Runs, Starves, IsRefused, Leaves, fate_in, is_over}
 use Rattle.waiting_protocol.specs.Machine as machine
 use Rattle.wait_sets.specs.Laws.{grid_terms}
@@ -65,14 +66,6 @@ pub record Waiter : Type 0 where
   pub member : ℕ
   pub request : Request
   pub deadline : Option ℕ
-
--- a message appended to a connection's output at a line: the call that it answers, if it answers one, and the call that it refuses, if it refuses one
-pub record Appended : Type 0 where
-  pub conn : ℕ
-  pub line : ℕ
-  pub bytes : List ℕ
-  pub answers : Option CallId
-  pub refuses : Option CallId
 
 -- a partition was reopened, at a line
 pub record Reopened : Type 0 where

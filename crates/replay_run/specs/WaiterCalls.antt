@@ -19,7 +19,9 @@ use Rattle.replay_run.specs.Grids.{FormOf, HasTable, HasWaiters, IsTally, HasWor
 use Rattle.replay_run.specs.Runs.{Run, Waiter, partitions, without, fate_now, next_in_turn, turn_of, leaves_so, served, calls, begins_to_wait}
 use Rattle.replay_run.specs.ScriptRuns.{IsRun}
 use Rattle.replay_run.specs.Tables.{Table, Opened, opened_at}
-use Rattle.replay_run.specs.WorldCalls.{Onward, texts_of}
+use Rattle.replay_run.specs.LineTold.{all_told}
+use Rattle.line_told.specs.declared.told.Told.{Told}
+use Rattle.replay_run.specs.WorldCalls.{Onward}
 
 -- between two steps of a line
 
@@ -37,13 +39,13 @@ handled_count opened = length opened.calls
 abbrev pub SameCounts : Table → Table → Type 0
 SameCounts old new = (c : ℕ) → option_map handled_count (opened_at new c) ≡ option_map handled_count (opened_at old c)
 
--- The run has gone on so, by the calls that found no memory, none of whose messages was handled anew; and the messages that this appended were printed.
-pub record HasServed {V : Type 0} {T : V → Type 0} (form : FormOf V T) (settings : Settings) (old new : Grid V T) (r : Run) (own : Option ℕ) (onward : Onward) (written text : List ℕ) : Type 0 where
+-- The run has gone on so, by the calls that found no memory, none of whose messages was handled anew; and the messages that this appended were told.
+pub record HasServed {V : Type 0} {T : V → Type 0} (form : FormOf V T) (settings : Settings) (old new : Grid V T) (r : Run) (own : Option ℕ) (onward : Onward) (earlier later : List Told) : Type 0 where
   pub skips : List CallId
   pub among : AreAmong (new_arrivals r (onward skips)) skips
   pub between : IsBetween form settings new (onward skips) own
   pub counts : SameCounts old.connections new.connections
-  pub added : text ≡ written ++ texts_of (new_messages r (onward skips))
+  pub added : later ≡ earlier ++ all_told (new_messages r (onward skips))
 
 -- the turn of one waiter, and of all that have one
 
@@ -97,12 +99,12 @@ pub record MayLeave {V : Type 0} {T : V → Type 0} (form : FormOf V T) (setting
   pub turns : IsTurnOf turn w (fate_now (partition_object settings) r w)
 
 -- A call was handled, waiting or not, and those who wait where it came had their turns: so many messages of its connection were handled by then.
-pub record HasHandledCall {V : Type 0} {T : V → Type 0} (form : FormOf V T) (settings : Settings) (new : Grid V T) (r : Run) (conn number : ℕ) (onward : Onward) (written text : List ℕ) : Type 0 where
+pub record HasHandledCall {V : Type 0} {T : V → Type 0} (form : FormOf V T) (settings : Settings) (new : Grid V T) (r : Run) (conn number : ℕ) (onward : Onward) (earlier later : List Told) : Type 0 where
   pub skips : List CallId
   pub among : AreAmong (new_arrivals r (onward skips)) skips
   pub between : IsBetween form settings new (onward skips) (Some conn)
   pub counting : IsCounting new.connections (onward skips) conn number
-  pub added : text ≡ written ++ texts_of (new_messages r (onward skips))
+  pub added : later ≡ earlier ++ all_told (new_messages r (onward skips))
 
 abbrev pub by_call : Settings → Run → ℕ → Request → Onward
 by_call settings r member request skips = calls (partition_object settings) skips r member request

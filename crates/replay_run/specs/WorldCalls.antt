@@ -45,7 +45,8 @@ use Rattle.replay_run.specs.Tallies.{received}
 use Rattle.rebalance.specs.declared.Step.{Step}
 use Rattle.rebalance.specs.Plans.{Planned}
 use Rattle.replay_run.specs.Rebalancing.{most_line_events, stepped_all, first_steps}
-use Rattle.replay_run.specs.RebalancingTexts.{ran_texts}
+use Rattle.line_told.specs.declared.told.Told.{Told}
+use Rattle.replay_run.specs.LineTold.{all_told, ran_all_told}
 use Rattle.replay_run.specs.Shelves.{grid_meaning}
 use Rattle.replay_run.specs.Grids.{FormOf, GridWorld, StandsForEvents, HasConnections, IsSettled, IsCounting, AreListening, Holds}
 use Rattle.partition_protocol.specs.Recorded.{Recorded}
@@ -63,26 +64,26 @@ abbrev pub texts_of : List Appended → List ℕ
 texts_of messages = flat_map appended_text messages
 
 -- The call is one event more, with the answers that it released and the refusal that was written.
-pub record IsCalled (settings : Settings) (old new : GridWorld) (events : List (Event Request)) (a : Arrival) (added : List ℕ) : Type 0 where
+pub record IsCalled (settings : Settings) (old new : GridWorld) (events : List (Event Request)) (a : Arrival) (added : List Told) : Type 0 where
   pub stands : StandsForEvents settings new (events ++ call_of a ∷ [])
   pub setup : setup_of new ≡ setup_of old
   pub waiting : (member : ℕ) → waiting new member ≡ waiting old member ++ released_at (partition_object settings) (change_of settings) (run_of (grid_meaning settings) old events) (call_of a) member
-  pub text : added ≡ texts_of (refused_by a.made a.request (happens (partition_object settings) (run_of (grid_meaning settings) old events) (call_of a)).outcome)
+  pub told : added ≡ all_told (refused_by a.made a.request (happens (partition_object settings) (run_of (grid_meaning settings) old events) (call_of a)).outcome)
 
 -- The call found no memory, is no event and was answered so.
-pub record IsSkipped (settings : Settings) (old new : GridWorld) (events : List (Event Request)) (a : Arrival) (added : List ℕ) : Type 0 where
+pub record IsSkipped (settings : Settings) (old new : GridWorld) (events : List (Event Request)) (a : Arrival) (added : List Told) : Type 0 where
   pub stands : StandsForEvents settings new events
   pub setup : setup_of new ≡ setup_of old
   pub waiting : (member : ℕ) → waiting new member ≡ waiting old member
-  pub text : added ≡ texts_of (refusal a.made a.request (pos want_of_memory) 0 ∷ [])
+  pub told : added ≡ all_told (refusal a.made a.request (pos want_of_memory) 0 ∷ [])
 
 -- and so it was told
 
-pub record IsCalledSo (settings : Settings) (old new : GridWorld) (events : List (Event Request)) (a : Arrival) (added : List ℕ) (reception : Reception) : Type 0 where
+pub record IsCalledSo (settings : Settings) (old new : GridWorld) (events : List (Event Request)) (a : Arrival) (added : List Told) (reception : Reception) : Type 0 where
   pub called : IsCalled settings old new events a added
   pub so : reception ≡ received (refused_by a.made a.request (happens (partition_object settings) (run_of (grid_meaning settings) old events) (call_of a)).outcome)
 
-pub record IsSkippedSo (settings : Settings) (old new : GridWorld) (events : List (Event Request)) (a : Arrival) (added : List ℕ) (reception : Reception) : Type 0 where
+pub record IsSkippedSo (settings : Settings) (old new : GridWorld) (events : List (Event Request)) (a : Arrival) (added : List Told) (reception : Reception) : Type 0 where
   pub skipped : IsSkipped settings old new events a added
   pub so : reception ≡ OutOfMemory
 
@@ -117,9 +118,9 @@ pub record AreOfRun (table : Table) (listeners : List Listeners) (at : Reaching)
 abbrev pub messages_in : {S R Plan C State : Type 0} → Meaning S C State → World S R Plan C → List (Event C) → Reaching → Run → List Listener → List Appended
 messages_in k world events at r all = messages_at r at.own at.partition all (adopted_since at.known (run_of k world events) at.member) (waiting world at.member)
 
--- It was appended as text, if the world is that of these events.
-abbrev pub IsAppended : {S R Plan C State : Type 0} → Meaning S C State → (R → Recorded C → Type 0) → (C → Type 0) → World S R Plan C → List (Event C) → Reaching → Run → List Listener → List ℕ → List ℕ → Type 0
-IsAppended k records limits world events at r all written text = StandsFor k records limits world events → text ≡ written ++ texts_of (messages_in k world events at r all)
+-- It was told, if the world is that of these events.
+abbrev pub IsAppended : {S R Plan C State : Type 0} → Meaning S C State → (R → Recorded C → Type 0) → (C → Type 0) → World S R Plan C → List (Event C) → Reaching → Run → List Listener → List Told → List Told → Type 0
+IsAppended k records limits world events at r all earlier later = StandsFor k records limits world events → later ≡ earlier ++ all_told (messages_in k world events at r all)
 
 -- Of the answers those are marked as answered that go out.
 abbrev pub MarksGoing : Run → Reaching → List CallAnswer → Table → Table → Type 0
@@ -129,34 +130,34 @@ MarksGoing r at answers old new = new ≡ with_answers old at.line (going_out r 
 abbrev pub reaching_of : Settings → Run → ℕ → ℕ → Reaching
 reaching_of settings r p member = record { line = r.lines; partition = p; member = member; known = version_known (world_at (partition_object settings) r p) member; own = None }
 
--- The call of a request was run, or skipped for want of memory, and the messages that it appended were printed.
-pub record HasAsked {V : Type 0} {T : V → Type 0} (form : FormOf V T) (settings : Settings) (new : Grid V T) (r : Run) (member : ℕ) (request : Request) (written text : List ℕ) : Type 0 where
+-- The call of a request was run, or skipped for want of memory, and the messages that it appended were told.
+pub record HasAsked {V : Type 0} {T : V → Type 0} (form : FormOf V T) (settings : Settings) (new : Grid V T) (r : Run) (member : ℕ) (request : Request) (earlier later : List Told) : Type 0 where
   pub skips : List CallId
   pub its_own : (id : CallId) → Contains skips id → request.id ≡ id
   pub holds : Holds form settings new (asked (partition_object settings) skips r (Some request.id.conn) (arrival_at r member request))
   pub listeners : AreListening new.listeners.items (asked (partition_object settings) skips r (Some request.id.conn) (arrival_at r member request)) (Some request.id.conn)
   pub counting : IsCounting new.connections (asked (partition_object settings) skips r (Some request.id.conn) (arrival_at r member request)) request.id.conn (request.id.number + 1)
-  pub added : text ≡ written ++ texts_of (new_messages r (asked (partition_object settings) skips r (Some request.id.conn) (arrival_at r member request)))
+  pub added : later ≡ earlier ++ all_told (new_messages r (asked (partition_object settings) skips r (Some request.id.conn) (arrival_at r member request)))
   -- its partition wasn't full
   pub goes : is_full (world_at (partition_object settings) r request.partition) ≡ false
 
--- A session's own answer was appended to its connection and printed.
-pub record HasTold {V : Type 0} {T : V → Type 0} (form : FormOf V T) (settings : Settings) (new : Grid V T) (r : Run) (conn number : ℕ) (answer written text : List ℕ) : Type 0 where
+-- A session's own answer was appended to its connection and told.
+pub record HasTold {V : Type 0} {T : V → Type 0} (form : FormOf V T) (settings : Settings) (new : Grid V T) (r : Run) (conn number : ℕ) (answer : List ℕ) (earlier later : List Told) : Type 0 where
   pub holds : Holds form settings new (told r conn answer)
   pub listeners : AreListening new.listeners.items (told r conn answer) (Some conn)
   pub counting : IsCounting new.connections (told r conn answer) conn (number + 1)
-  pub added : text ≡ written ++ texts_of (new_messages r (told r conn answer))
+  pub added : later ≡ earlier ++ all_told (new_messages r (told r conn answer))
 
 -- Each partition may have one event more: four bytes count them.
 abbrev pub HasCallRoom : Run → Type 0
 HasCallRoom r = length r.arrivals + length r.waiters + most_line_events * r.lines + 1 < 2 ^ 32 - 1
 
--- A registration came on a connection of this number and to this member: it was answered and listens, and what was appended was printed.
-pub record HasRegistered {V : Type 0} {T : V → Type 0} (form : FormOf V T) (settings : Settings) (new : Grid V T) (r : Run) (conn member number : ℕ) (registration : Registration) (written text : List ℕ) : Type 0 where
+-- A registration came on a connection of this number and to this member: it was answered and listens, and what was appended was told.
+pub record HasRegistered {V : Type 0} {T : V → Type 0} (form : FormOf V T) (settings : Settings) (new : Grid V T) (r : Run) (conn member number : ℕ) (registration : Registration) (earlier later : List Told) : Type 0 where
   pub holds : Holds form settings new (registers (partition_object settings) r conn member registration)
   pub listeners : AreListening new.listeners.items (registers (partition_object settings) r conn member registration) (Some conn)
   pub counting : IsCounting new.connections (registers (partition_object settings) r conn member registration) conn (number + 1)
-  pub added : text ≡ written ++ texts_of (new_messages r (registers (partition_object settings) r conn member registration))
+  pub added : later ≡ earlier ++ all_told (new_messages r (registers (partition_object settings) r conn member registration))
 
 -- what is sent behind the answer of a registration: to a connection that listens to rows those that its member knows
 abbrev pub first_events : Object Request Partition → Run → ℕ → ℕ → Registration → List Appended
@@ -188,15 +189,15 @@ pub record Brings (settings : Settings) (r : Run) (k : Connection) (bytes : List
   pub fit : (q : Request) → Contains items (Asks q) → CallFits q.call
   pub waits_fit : (q : Request) (timeout : ℤ) → Contains items (Wait q timeout) → CallFits q.call
 
--- In the midst of a line of bytes: these of its items were handled, and the messages that they appended were printed.
-pub record HasHandledSome {V : Type 0} {T : V → Type 0} (form : FormOf V T) (settings : Settings) (grid : Grid V T) (r : Run) (k : Connection) (bytes : List ℕ) (done : List Item) (written text : List ℕ) : Type 0 where
+-- In the midst of a line of bytes: these of its items were handled, and the messages that they appended were told.
+pub record HasHandledSome {V : Type 0} {T : V → Type 0} (form : FormOf V T) (settings : Settings) (grid : Grid V T) (r : Run) (k : Connection) (bytes : List ℕ) (done : List Item) (earlier later : List Told) : Type 0 where
   pub skips : List CallId
   pub now : Run
   pub midway : IsMidway (partition_object settings) r k bytes done skips now
   pub holds : Holds form settings grid now
   pub listeners : AreListening grid.listeners.items now (Some k.conn)
   pub counting : IsCounting grid.connections now k.conn (length (messages_on k) + length done)
-  pub added : text ≡ written ++ texts_of (new_messages r now)
+  pub added : later ≡ earlier ++ all_told (new_messages r now)
 
 -- The run is given up in the midst of a line of bytes: with these of its calls skipped, one of them met a full partition.
 pub record IsGivenUpMidway (settings : Settings) (r : Run) (k : Connection) (bytes : List ℕ) (items : List Item) : Type 0 where
@@ -238,22 +239,22 @@ pub record IsAmid {V : Type 0} {T : V → Type 0} (form : FormOf V T) (settings 
   pub listeners : AreListening grid.listeners.items r None
   pub settled : IsSettled grid.connections r
 
--- The run has gone on, and the messages that this appended were printed.
-pub record HasGoneOn {V : Type 0} {T : V → Type 0} (form : FormOf V T) (settings : Settings) (new : Grid V T) (r next : Run) (written text : List ℕ) : Type 0 where
+-- The run has gone on, and the messages that this appended were told.
+pub record HasGoneOn {V : Type 0} {T : V → Type 0} (form : FormOf V T) (settings : Settings) (new : Grid V T) (r next : Run) (earlier later : List Told) : Type 0 where
   pub amid : IsAmid form settings new next
   pub messages : List Appended
   pub appended : next.appended ≡ r.appended ++ messages
-  pub added : text ≡ written ++ texts_of messages
+  pub added : later ≡ earlier ++ all_told messages
 
 -- what a run goes on to, by the calls that find no memory
 abbrev pub Onward : Type 0
 Onward = List CallId → Run
 
 -- The run has gone on so, where calls that came to their end found no memory.
-pub record HasGoneOnSo {V : Type 0} {T : V → Type 0} (form : FormOf V T) (settings : Settings) (new : Grid V T) (r : Run) (onward : Onward) (written text : List ℕ) : Type 0 where
+pub record HasGoneOnSo {V : Type 0} {T : V → Type 0} (form : FormOf V T) (settings : Settings) (new : Grid V T) (r : Run) (onward : Onward) (earlier later : List Told) : Type 0 where
   pub skips : List CallId
   pub own : AreAmong (new_arrivals r (onward skips)) skips
-  pub on : HasGoneOn form settings new r (onward skips) written text
+  pub on : HasGoneOn form settings new r (onward skips) earlier later
 
 -- So it is given up.
 pub record GivesUpSo (r : Run) (onward : Onward) : Type 0 where
@@ -261,25 +262,25 @@ pub record GivesUpSo (r : Run) (onward : Onward) : Type 0 where
   pub own : AreAmong (new_arrivals r (onward skips)) skips
   pub full : (onward skips).full ≡ true
 
--- The event has happened, and what it appended was printed; those whom it stirs are still to have their turns.
-pub record HasOccurred {V : Type 0} {T : V → Type 0} (form : FormOf V T) (settings : Settings) (new : Grid V T) (r : Run) (p : ℕ) (event : Event Request) (happened : Happened) (written text : List ℕ) : Type 0 where
+-- The event has happened, and what it appended was told; those whom it stirs are still to have their turns.
+pub record HasOccurred {V : Type 0} {T : V → Type 0} (form : FormOf V T) (settings : Settings) (new : Grid V T) (r : Run) (p : ℕ) (event : Event Request) (happened : Happened) (earlier later : List Told) : Type 0 where
   pub goes : meets_full (world_at (partition_object settings) r p) event ≡ false
-  pub on : HasGoneOn form settings new r (occurred (partition_object settings) r p event) written text
+  pub on : HasGoneOn form settings new r (occurred (partition_object settings) r p event) earlier later
   pub outcome : happened_of happened ≡ outcome_at (partition_object settings) r p event
 
 -- The event has happened, and those whom it stirred had their turns.
-pub record HasTaken {V : Type 0} {T : V → Type 0} (form : FormOf V T) (settings : Settings) (new : Grid V T) (r : Run) (p : ℕ) (event : Event Request) (happened : Happened) (written text : List ℕ) : Type 0 where
-  pub on : HasGoneOnSo form settings new r (λ skips. takes (partition_object settings) skips r p event) written text
+pub record HasTaken {V : Type 0} {T : V → Type 0} (form : FormOf V T) (settings : Settings) (new : Grid V T) (r : Run) (p : ℕ) (event : Event Request) (happened : Happened) (earlier later : List Told) : Type 0 where
+  pub on : HasGoneOnSo form settings new r (λ skips. takes (partition_object settings) skips r p event) earlier later
   pub outcome : happened_of happened ≡ outcome_at (partition_object settings) r p event
 
 -- Messages were delivered, each by an event.
-pub record HasFlowed {V : Type 0} {T : V → Type 0} (form : FormOf V T) (settings : Settings) (new : Grid V T) (r : Run) (onward : Onward) (number : ℕ) (written text : List ℕ) : Type 0 where
-  pub on : HasGoneOnSo form settings new r onward written text
+pub record HasFlowed {V : Type 0} {T : V → Type 0} (form : FormOf V T) (settings : Settings) (new : Grid V T) (r : Run) (onward : Onward) (number : ℕ) (earlier later : List Told) : Type 0 where
+  pub on : HasGoneOnSo form settings new r onward earlier later
   pub deliveries : deliveries r (onward on.skips) ≡ number
 
 -- It happened in the first partition and in all others.
-pub record HasTakenInAll {V : Type 0} {T : V → Type 0} (form : FormOf V T) (settings : Settings) (new : Grid V T) (r : Run) (event : Event Request) (first : Happened) (written text : List ℕ) : Type 0 where
-  pub on : HasGoneOnSo form settings new r (λ skips. takes_in (partition_object settings) skips r event (numbers_below partitions)) written text
+pub record HasTakenInAll {V : Type 0} {T : V → Type 0} (form : FormOf V T) (settings : Settings) (new : Grid V T) (r : Run) (event : Event Request) (first : Happened) (earlier later : List Told) : Type 0 where
+  pub on : HasGoneOnSo form settings new r (λ skips. takes_in (partition_object settings) skips r event (numbers_below partitions)) earlier later
   pub outcome : happened_of first ≡ outcome_at (partition_object settings) r 0 event
 
 -- steps of a plan
@@ -293,9 +294,9 @@ MayStep r next (step ∷ steps) = (next ≤ step.partition) × (step.partition <
 abbrev pub HasNoSteps : Planned → Type 0
 HasNoSteps planned = (most : ℕ) → first_steps most planned ≡ []
 
--- The steps were run, and what each appended was printed, and how it ended.
-pub record HasStepped {V : Type 0} {T : V → Type 0} (form : FormOf V T) (settings : Settings) (new : Grid V T) (r : Run) (steps : List Step) (written text : List ℕ) : Type 0 where
+-- The steps were run, and what each appended was told, and how it ended.
+pub record HasStepped {V : Type 0} {T : V → Type 0} (form : FormOf V T) (settings : Settings) (new : Grid V T) (r : Run) (steps : List Step) (earlier later : List Told) : Type 0 where
   pub skips : List CallId
   pub own : AreAmong (new_arrivals r (stepped_all (partition_object settings) skips r steps)) skips
   pub amid : IsAmid form settings new (stepped_all (partition_object settings) skips r steps)
-  pub added : text ≡ written ++ ran_texts (partition_object settings) skips r steps
+  pub added : later ≡ earlier ++ ran_all_told (partition_object settings) skips r steps

@@ -5,6 +5,7 @@ ghost use Rattle.grid_base.specs.declared.calls.Request.{Request as Call};
 ghost use Rattle.partition_protocol.specs.Events.{Event as ProtocolEvent};
 ghost use Rattle.partition_protocol.specs.Arrivals.{NamedOnce, arrivals, name};
 ghost use Rattle.grid_base.specs.Limits.{CallFits};
+ghost use Rattle.line_told.specs.declared.told.Told.{Told as ToldOf};
 ghost use Rattle.call_engine.specs.Calls.{Settings};
 ghost use Rattle.call_engine.specs.Env.{settings_of};
 ghost use Rattle.call_engine.specs.Objects.{partition_object};
@@ -12,27 +13,29 @@ ghost use Rattle.partition_world.specs.Events.{happened_of};
 ghost use Rattle.grid_base.specs.Shelves.{meaning};
 ghost use Rattle.partition_world.specs.Worlds.{steps_of, waiting};
 ghost use Rattle.replay_run.specs.Runs.{Run, Connection as RunConnection, partitions, call_of, refused_by, connection_of, fault_on, is_full, world_at};
-ghost use Rattle.replay_run.specs.Printing.{appended_text};
+ghost use Rattle.replay_run.specs.LineTold.{all_told, close_told};
 ghost use Rattle.replay_run.specs.Rebalancing.{most_line_events};
 ghost use Rattle.replay_run.specs.Tables.{with_answer};
 ghost use Rattle.replay_run.specs.Tallies.{received, tallied};
 ghost use Rattle.replay_run.specs.ScriptRuns.{IsRun, IsNext};
 ghost use Rattle.replay_run.specs.Grids.{boxed, AreFew, AreListening, Stands, StandsForEvents, Holds, IsCounting, MayRun, HasRun, IsGivenUp};
 ghost use Rattle.replay_run.specs.WaiterCalls.{IsBetween, HasHandledCall, by_call};
-ghost use Rattle.replay_run.specs.WorldCalls.{GivesUpSo, arrival_to, refusals, texts_of, IsCalledSo, IsSkippedSo, HasAsked, HasTold, HasCallRoom, HasRoom, open_member_in, Brings, HasHandledSome, IsGivenUpMidway};
+ghost use Rattle.replay_run.specs.WorldCalls.{GivesUpSo, arrival_to, refusals, IsCalledSo, IsSkippedSo, HasAsked, HasTold, HasCallRoom, HasRoom};
+ghost use Rattle.replay_run.specs.WorldCalls.{open_member_in, Brings, HasHandledSome, IsGivenUpMidway};
 ghost use Rattle.replay_run.specs.declared.run_end.RunEnd.TheVariants as RunEnds;
 
 use crate::grid::Grid;
 use crate::links::MOST_IN_FLIGHT;
+use crate::messages::{own_answer, tell_message};
 use crate::outgoing::{Reaching, append_reached, version_known};
-use crate::print::{push_appended, push_close};
 use crate::run_end::RunEnd;
 use crate::tally::Reception;
 use call_engine::{GridEnv, GridShelf};
 use client_codecs::write_error;
 use frame_codec::Malformed;
 use grid_base::errors::WANT_OF_MEMORY;
-use grid_base::{Bytes, MemberId, Memory, Moment, Request};
+use grid_base::{Bytes, CallId, MemberId, Memory, Moment, Request};
+use line_told::{Appended, Told};
 use listeners::Listeners;
 use partition_world::{CallOutcome, Event, Happened, Recorder, World};
 use script_lang::Line;
@@ -81,25 +84,32 @@ fn reception_of(refusal: Option<Refusal>) -> Reception
 #[derive(Clone, Copy)]
 pub(crate) struct Caller {
     pub(crate) line: u32,
-    pub(crate) conn: u32,
+    pub(crate) id: CallId,
     pub(crate) correlation: i64,
 }
 
-/// Appends the error that refuses a call, if it is refused.
-pub(crate) fn push_refusal(
+/// Tells the error that refuses a call, if it is refused.
+pub(crate) fn tell_refusal(
     alloc: Global,
-    out: &mut Vec<u8>,
+    out: &mut Vec<Told>,
     to: Caller,
     refusal: Option<Refusal>,
 ) -> Result<(), Memory>
-    ensures { (request : Call) → request.id.conn ≡ to.conn → request.correlation ≡ to.correlation
-        → OnOk result (out.new.items ≡ out.old.items ++ texts_of (refusals to.line request refusal)) }
+    ensures { (request : Call) → request.id ≡ to.id → request.correlation ≡ to.correlation
+        → OnOk result (out.new.items ≡ out.old.items ++ all_told (refusals to.line request refusal)) }
 {
     let Some(Refusal { code, version }) = refusal else {
         return Ok(());
     };
     let error = write_error(alloc, to.correlation, code, version.cast_signed(), 0)?;
-    push_appended(alloc, out, to.line, to.conn, error.as_slice())
+    let message = Appended {
+        conn: to.id.conn,
+        line: to.line,
+        bytes: error,
+        answers: None,
+        refuses: Some(to.id),
+    };
+    tell_message(out, message)
 }
 
 /// What a call of a request meets at a member: its moment there, and the line at which it is made.
@@ -118,7 +128,7 @@ pub(crate) fn call(
     env: &GridEnv,
     at: Arriving,
     request: Request,
-    out: &mut Vec<u8>,
+    out: &mut Vec<Told>,
 ) -> Result<Reception, Memory>
     requires limits { CallFits request.call }
     requires room { steps_of world.old + 1 < 2 ^ 32 - 1 }
@@ -126,14 +136,15 @@ pub(crate) fn call(
         × NamedOnce (map name (arrivals (events ++ call_of (arrival_to at.line at.member at.now request) ∷ []))) }
     ensures { (events : List (ProtocolEvent Call)) → StandsForEvents (settings_of (boxed form) env.now) world.old events
         → NamedOnce (map name (arrivals (events ++ call_of (arrival_to at.line at.member at.now request) ∷ [])))
-        → IfOk result (λ reception. (text : List ℕ) × (out.new.items ≡ out.old.items ++ text)
-        × (IsCalledSo (settings_of (boxed form) env.now) world.old world.new events (arrival_to at.line at.member at.now request) text reception ⊎ IsSkippedSo (settings_of (boxed form) env.now) world.old world.new events (arrival_to at.line at.member at.now request) text reception)) }
+        → IfOk result (λ reception. (told : List ToldOf) × (out.new.items ≡ out.old.items ++ told)
+        × (IsCalledSo (settings_of (boxed form) env.now) world.old world.new events (arrival_to at.line at.member at.now request) told reception
+        ⊎ IsSkippedSo (settings_of (boxed form) env.now) world.old world.new events (arrival_to at.line at.member at.now request) told reception)) }
 {
     request.call.numbers_fit();
     let id = request.id;
     let to = Caller {
         line: at.line,
-        conn: id.conn,
+        id,
         correlation: request.correlation,
     };
     let event = Event::Call {
@@ -145,14 +156,24 @@ pub(crate) fn call(
     match world.step(alloc, env, event) {
         Ok(happened) => {
             let refusal = refusal_of(happened);
-            push_refusal(alloc, out, to, refusal)?;
+            tell_refusal(alloc, out, to, refusal)?;
             Ok(reception_of(refusal))
         }
         Err(_) => {
-            push_refusal(alloc, out, to, Some(NO_MEMORY))?;
+            tell_refusal(alloc, out, to, Some(NO_MEMORY))?;
             Ok(Reception::OutOfMemory)
         }
     }
+}
+
+/// Tells that a connection closed, if a fault closed it.
+fn tell_close(out: &mut Vec<Told>, conn: u32, fault: Option<Malformed>) -> Result<(), Memory>
+    ensures { OnOk result (out.new.items ≡ out.old.items ++ close_told conn fault) }
+{
+    let Some(fault) = fault else {
+        return Ok(());
+    };
+    Ok(out.push(Told::Closed { conn, fault })?)
 }
 
 /// Drops what a connection registered at its member, where the connection has closed.
@@ -180,7 +201,7 @@ impl Grid {
         number: u32,
         conn: u32,
         bytes: &[u8],
-        out: &mut Vec<u8>,
+        out: &mut Vec<Told>,
     ) -> Result<(), RunEnd>
         requires { MayRun (boxed form) self.old number (Line.Arrive conn bytes.now) }
         ensures ok { (settings : Settings) (r : Run) → Stands (boxed form) settings self.old r → OnOk result (HasRun (boxed form) settings self.new r (Line.Arrive conn bytes.now) out.old.items out.new.items) }
@@ -198,7 +219,7 @@ impl Grid {
         if fed.closed.is_some() {
             self.waiters.drop_conn(conn);
         }
-        Ok(push_close(out, number, conn, fed.closed)?)
+        Ok(tell_close(out, conn, fed.closed)?)
     }
 
     /// The member of a connection, where bytes can arrive on it.
@@ -222,7 +243,7 @@ impl Grid {
         conn: u32,
         member: MemberId,
         items: Vec<Item>,
-        out: &mut Vec<u8>,
+        out: &mut Vec<Told>,
     ) -> Result<(), RunEnd>
         requires { (settings : Settings) × (r : Run) × (k : RunConnection) × (bytes : List ℕ) × Brings settings r k bytes items.items × HasHandledSome (boxed form) settings self.old r k bytes [] out.old.items out.old.items × (k.conn ≡ conn) × (k.member ≡ member) × HasRoom r k bytes × AreFew r }
         ensures ok { (settings : Settings) (r : Run) (k : RunConnection) (bytes : List ℕ) → Brings settings r k bytes items.items → k.conn ≡ conn → k.member ≡ member
@@ -234,7 +255,7 @@ impl Grid {
     {
         for item in items {
             match item {
-                Item::Reply(answer) => self.tell(alloc, conn, answer, out)?,
+                Item::Reply(answer) => self.tell(conn, answer, out)?,
                 Item::Wait { request, timeout } => {
                     self.wait(alloc, member, request, timeout, out)?
                 }
@@ -250,17 +271,16 @@ impl Grid {
     /// A session's own answer is appended to its connection.
     pub(crate) fn tell(
         &mut self,
-        alloc: Global,
         conn: u32,
         answer: Bytes,
-        out: &mut Vec<u8>,
+        out: &mut Vec<Told>,
     ) -> Result<(), Memory>
         ensures { (settings : Settings) (r : Run) (number : ℕ) → Holds (boxed form) settings self.old r
             → AreListening self.old.listeners.items r (Some conn) → IsCounting self.old.connections r conn number
             → OnOk result (HasTold (boxed form) settings self.new r conn number answer out.old.items out.new.items) }
     {
         self.connections.reply(conn)?;
-        push_appended(alloc, out, self.lines, conn, answer.as_slice())
+        tell_message(out, own_answer(self.lines, conn, answer))
     }
 
     /// A call arrives at its connection's member and is made, and those who wait there have their turns.
@@ -269,7 +289,7 @@ impl Grid {
         alloc: Global,
         member: MemberId,
         request: Request,
-        out: &mut Vec<u8>,
+        out: &mut Vec<Told>,
     ) -> Result<(), RunEnd>
         requires limits { CallFits request.call }
         requires placed { request.partition < partitions }
@@ -297,7 +317,7 @@ impl Grid {
         alloc: Global,
         member: MemberId,
         request: Request,
-        out: &mut Vec<u8>,
+        out: &mut Vec<Told>,
     ) -> Result<(), RunEnd>
         requires limits { CallFits request.call }
         requires placed { request.partition < partitions }
@@ -325,7 +345,7 @@ impl Grid {
         alloc: Global,
         member: MemberId,
         request: Request,
-        out: &mut Vec<u8>,
+        out: &mut Vec<Told>,
     ) -> Result<Reception, Memory>
         requires limits { CallFits request.call }
         requires placed { request.partition < partitions }

@@ -1,50 +1,20 @@
-ghost use Rattle.std.specs.Prelude.{◌≡◌, ◌++◌, decimal, OnOk, unwrap_or};
+ghost use Rattle.std.specs.Prelude.{◌≡◌, ◌++◌, OnOk, unwrap_or};
 ghost use Rattle.std.specs.Option.{option_copied};
 ghost use Rattle.map_records.specs.MapEntries.{empty_entry};
 ghost use Rattle.object_store.specs.Records.{items_in};
 ghost use Rattle.object_store.specs.Partitions.{record_at};
-ghost use Rattle.replay_run.specs.Dumps.{value_text, client_text, end_text, idle_text, lock_text, entry_words, items_text, stored_text, dumped_text};
-ghost use Rattle.replay_run.specs.Printing.{dump_text};
+ghost use Rattle.replay_run.specs.Dumps.{client_text, end_text, idle_text, lock_text, entry_words, items_text, stored_text, dumped_text};
 
 use crate::entries::push_entry_words;
-use crate::print::{push_hex_word, push_number, push_optional, push_text};
 use call_engine::GridShelf;
 use grid_base::{Bytes, ClientKey, Memory, Moment, ObjectKey};
 use itoa::Buffer;
 use key_locks::Lock;
+use line_told::{push_decimal, push_hex_word, push_number, push_optional, push_text, push_value};
 use map_records::{Idle, MapRecord};
 use object_store::ObjectStore;
-use partition_protocol::Pair;
 use std::alloc::Global;
 use uuid::Uuid;
-
-/// Appends a number without a space after it.
-pub fn push_decimal(out: &mut Vec<u8>, n: u64) -> Result<(), Memory>
-    ensures { OnOk result (out.new.items ≡ out.old.items ++ decimal n) }
-{
-    push_text(out, Buffer::new().format(n).as_bytes())
-}
-
-/// Appends the outcome of a line that prints what a member has: the version of its contents, and how many effects they count.
-pub(crate) fn push_dump(out: &mut Vec<u8>, line: u32, pair: Pair) -> Result<(), Memory>
-    ensures { OnOk result (out.new.items ≡ out.old.items ++ dump_text line pair) }
-{
-    push_number(out, u64::from(line))?;
-    push_text(out, b"dump ")?;
-    push_number(out, u64::from(pair.version))?;
-    push_decimal(out, u64::from(pair.count))?;
-    push_text(out, b"\n")
-}
-
-/// Appends a value, or `-`.
-pub fn push_value(alloc: Global, out: &mut Vec<u8>, value: Option<&Bytes>) -> Result<(), Memory>
-    ensures { OnOk result (out.new.items ≡ out.old.items ++ value_text (option_copied value.entry)) }
-{
-    match value {
-        None => push_text(out, b"-"),
-        Some(value) => push_hex_word(alloc, out, value.as_slice()),
-    }
-}
 
 /// Appends a client's own number as a UUID, or its connection.
 fn push_client(out: &mut Vec<u8>, client: ClientKey) -> Result<(), Memory>

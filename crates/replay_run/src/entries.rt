@@ -6,8 +6,8 @@ ghost use Rattle.replay_run.specs.Printing.{Reset, first_line, map_call_name, qu
 ghost use Rattle.replay_run.specs.PrintedEntries.{arrived_in, answered_in, printed_as, resets_in};
 
 use crate::connections::{CallLines, Connections};
-use crate::print::{push_hex_word, push_number, push_optional, push_text, push_word};
 use grid_base::{Bytes, GridCall, MapCall, Memory, ObjectKey, PartitionId, QueueCall, Request};
+use line_told::{push_hex_word, push_number, push_optional, push_text, push_word};
 use partition_world::Entry;
 use std::alloc::Global;
 

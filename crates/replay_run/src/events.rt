@@ -18,13 +18,14 @@ ghost use Rattle.replay_run.specs.declared.run_end.RunEnd.TheVariants as RunEnds
 
 use crate::grid::Grid;
 use crate::links::MOST_IN_FLIGHT;
-use crate::outcomes::{done_word, push_fate, push_flow, push_happened};
+use crate::messages::tell_outcome;
+use crate::outcomes::is_advance;
 use crate::outgoing::{Reaching, append_reached, version_known};
-use crate::print::push_text;
 use crate::reopened::Reopened;
 use crate::run_end::RunEnd;
 use crate::waiting::stirred_by;
 use grid_base::{MemberId, Memory, PARTITIONS, PartitionId, Request, Shelf};
+use line_told::{LineOutcome, Told};
 use partition_world::{Event, Happened, Link, Records, World};
 use script_lang::Line;
 use std::alloc::Global;
@@ -179,7 +180,7 @@ impl Grid {
         alloc: Global,
         partition: PartitionId,
         event: Event<Request>,
-        out: &mut Vec<u8>,
+        out: &mut Vec<Told>,
     ) -> Result<Happened, RunEnd>
         requires placed { partition < partitions }
         requires unasked { asked_by (event_of event) ≡ [] }
@@ -203,7 +204,7 @@ impl Grid {
         alloc: Global,
         partition: PartitionId,
         event: Event<Request>,
-        out: &mut Vec<u8>,
+        out: &mut Vec<Told>,
     ) -> Result<Happened, RunEnd>
         requires placed { partition < partitions }
         requires unasked { asked_by (event_of event) ≡ [] }
@@ -258,7 +259,7 @@ impl Grid {
         number: u32,
         partition: PartitionId,
         event: Event<Request>,
-        out: &mut Vec<u8>,
+        out: &mut Vec<Told>,
     ) -> Result<(), RunEnd>
         requires { (line : ScriptLine) × MayRun (boxed form) self.old number line × (event_by line ≡ Some (record { partition = partition; event = event_of event })) }
         ensures ok { (settings : Settings) (r : Run) (line : ScriptLine) → Stands (boxed form) settings self.old r → event_by line ≡ Some (record { partition = partition; event = event_of event })
@@ -267,11 +268,11 @@ impl Grid {
             → IsErrOf result RunEnds.InFlight → IsGivenUp settings r line }
     {
         self.lines = number;
-        let done = done_word(&event);
+        let advances = is_advance(&event);
         let mut messages = Vec::new(alloc);
         let happened = self.take(alloc, partition, event, &mut messages)?;
-        push_happened(out, number, done, happened)?;
-        Ok(push_text(out, messages.as_slice())?)
+        tell_outcome(out, LineOutcome::of_event(advances, happened))?;
+        Ok(out.append(&mut messages)?)
     }
 
     /// Delivers the first message in flight, up to so many times, and tells how often.
@@ -280,7 +281,7 @@ impl Grid {
         alloc: Global,
         partition: PartitionId,
         most: u32,
-        out: &mut Vec<u8>,
+        out: &mut Vec<Told>,
     ) -> Result<u32, RunEnd>
         requires placed { partition < partitions }
         requires stands { (settings : Settings) × (r : Run) × IsAmid (boxed form) settings self.old r × HasRoomAt r partition most }
@@ -308,7 +309,7 @@ impl Grid {
         number: u32,
         partition: PartitionId,
         most: u32,
-        out: &mut Vec<u8>,
+        out: &mut Vec<Told>,
     ) -> Result<(), RunEnd>
         requires { MayRun (boxed form) self.old number (ScriptLines.Flow partition most) }
         ensures ok { (settings : Settings) (r : Run) → Stands (boxed form) settings self.old r → OnOk result (HasRun (boxed form) settings self.new r (ScriptLines.Flow partition most) out.old.items out.new.items) }
@@ -317,12 +318,17 @@ impl Grid {
         self.lines = number;
         let mut messages = Vec::new(alloc);
         let deliveries = self.deliver_first(alloc, partition, most, &mut messages)?;
-        push_flow(out, number, deliveries)?;
-        Ok(push_text(out, messages.as_slice())?)
+        tell_outcome(out, LineOutcome::Flowed { deliveries })?;
+        Ok(out.append(&mut messages)?)
     }
 
     /// Delivers up to so many messages of each partition, and tells how many in all.
-    fn deliver_in_all(&mut self, alloc: Global, most: u32, out: &mut Vec<u8>) -> Result<u32, RunEnd>
+    fn deliver_in_all(
+        &mut self,
+        alloc: Global,
+        most: u32,
+        out: &mut Vec<Told>,
+    ) -> Result<u32, RunEnd>
         requires most { most ≤ 1000 }
         requires stands { (settings : Settings) × (r : Run) × IsAmid (boxed form) settings self.old r × ((p : ℕ) → HasRoomAt r p most) }
         ensures ok { (settings : Settings) (r : Run) → IsAmid (boxed form) settings self.old r
@@ -342,7 +348,7 @@ impl Grid {
         alloc: Global,
         number: u32,
         most: u32,
-        out: &mut Vec<u8>,
+        out: &mut Vec<Told>,
     ) -> Result<(), RunEnd>
         requires { MayRun (boxed form) self.old number (ScriptLines.FlowAll most) }
         ensures ok { (settings : Settings) (r : Run) → Stands (boxed form) settings self.old r → OnOk result (HasRun (boxed form) settings self.new r (ScriptLines.FlowAll most) out.old.items out.new.items) }
@@ -351,8 +357,8 @@ impl Grid {
         self.lines = number;
         let mut messages = Vec::new(alloc);
         let deliveries = self.deliver_in_all(alloc, most, &mut messages)?;
-        push_flow(out, number, deliveries)?;
-        Ok(push_text(out, messages.as_slice())?)
+        tell_outcome(out, LineOutcome::Flowed { deliveries })?;
+        Ok(out.append(&mut messages)?)
     }
 
     /// Runs the same event in each partition, and tells what it came to in the first one.
@@ -360,7 +366,7 @@ impl Grid {
         &mut self,
         alloc: Global,
         fate: Fate,
-        out: &mut Vec<u8>,
+        out: &mut Vec<Told>,
     ) -> Result<Happened, RunEnd>
         requires { (settings : Settings) × (r : Run) × IsAmid (boxed form) settings self.old r × ((p : ℕ) → HasRoomAt r p 1) }
         ensures ok { (settings : Settings) (r : Run) → IsAmid (boxed form) settings self.old r → IfOk result (λ first. HasTakenInAll (boxed form) settings self.new r (event_in_all fate) first out.old.items out.new.items) }
@@ -382,7 +388,7 @@ impl Grid {
         alloc: Global,
         number: u32,
         fate: Fate,
-        out: &mut Vec<u8>,
+        out: &mut Vec<Told>,
     ) -> Result<(), RunEnd>
         requires { MayRun (boxed form) self.old number (line_of_fate fate) }
         ensures ok { (settings : Settings) (r : Run) → Stands (boxed form) settings self.old r → OnOk result (HasRun (boxed form) settings self.new r (line_of_fate fate) out.old.items out.new.items) }
@@ -391,7 +397,7 @@ impl Grid {
         self.lines = number;
         let mut messages = Vec::new(alloc);
         let first = self.take_in_all(alloc, fate, &mut messages)?;
-        push_fate(out, number, first)?;
-        Ok(push_text(out, messages.as_slice())?)
+        tell_outcome(out, LineOutcome::of_fate(first))?;
+        Ok(out.append(&mut messages)?)
     }
 }

@@ -1,23 +1,24 @@
 ghost use Rattle.std.specs.Prelude.{◌≡◌, ℕ, true, false, ◌+◌, ◌-◌, ◌*◌, ◌<◌, ◌≤◌, ◌++◌, None, Some, map, is_some, IfOk, OnOk, IsErrOf, ◌||◌, length};
 ghost use Rattle.call_engine.specs.Calls.{Settings};
 ghost use Rattle.call_engine.specs.Objects.{partition_object};
-ghost use Rattle.replay_run.specs.Runs.{Run, partitions, begun, lives, is_open, connection_of};
-ghost use Rattle.replay_run.specs.Printing.{ok_text, nothing_text, flow_text};
-ghost use Rattle.replay_run.specs.Grids.{boxed, AreListening, Holds, Stands, MayRun, HasRun, IsGivenUp};
+ghost use Rattle.replay_run.specs.Runs.{Run, partitions, begun, lives, is_open, connection_of, next_line};
+ghost use Rattle.line_told.specs.declared.told.LineOutcome.TheVariants as outcome;
+ghost use Rattle.replay_run.specs.LineTold.{came_to};
+ghost use Rattle.replay_run.specs.Grids.{boxed, AreListening, Holds, Stands, MayRun, HasRun, HasGiven, IsGivenUp};
 ghost use Rattle.replay_run.specs.WorldCalls.{is_quiet, open_member_in};
 ghost use Rattle.replay_run.specs.declared.run_end.RunEnd.TheVariants as RunEnds;
 
 use crate::connections::Connections;
 use crate::events::{Fate, event_by};
 use crate::links::links_of;
-use crate::outcomes::push_flow;
-use crate::print::{push_nothing, push_ok};
+use crate::messages::tell_outcome;
 use crate::reopened::Reopened;
 use crate::run_end::RunEnd;
 use crate::tally::Tally;
 use call_engine::{GridEnv, GridShelf};
 use entry_processors::{Processor, Registry};
 use grid_base::{MemberId, Memory, Moment, PARTITIONS, Request};
+use line_told::{LineOutcome, Ready, Told};
 use listeners::Listeners;
 use partition_world::{Link, Recorder, World};
 use script_lang::Line;
@@ -122,7 +123,7 @@ impl Grid {
         self.open_member(conn).is_some()
     }
 
-    /// Runs the line of that number, which is the next one, and appends its text. After an error the grid and the text
+    /// Runs the line of that number, which is the next one, and adds what it tells. After an error the grid and what it told
     /// are given up: for want of memory, or where an event other than a loss met a partition with 65,400 messages or more
     /// in flight on one link.
     ///
@@ -139,31 +140,34 @@ impl Grid {
         alloc: Global,
         number: u32,
         line: &Line,
-        out: &mut Vec<u8>,
+        out: &mut Ready,
     ) -> Result<(), RunEnd>
         requires { MayRun (boxed form) self.old number line.now }
-        ensures ok { (settings : Settings) (r : Run) → Stands (boxed form) settings self.old r → OnOk result (HasRun (boxed form) settings self.new r line.now out.old.items out.new.items) }
+        ensures ok { (settings : Settings) (r : Run) → Stands (boxed form) settings self.old r
+            → OnOk result (HasGiven (boxed form) settings self.new r line.now out.old out.new) }
         ensures full { (settings : Settings) (r : Run) → Stands (boxed form) settings self.old r → IsErrOf result RunEnds.InFlight → IsGivenUp settings r line.now }
     {
         if let Some((partition, event)) = event_by(line) {
-            return self.run_event(alloc, number, partition, event, out);
+            return self.run_event(alloc, number, partition, event, &mut out.told);
         }
         match line {
-            Line::Arrive { conn, bytes } => self.arrive(
-                alloc,
-                number,
-                *conn,
-                bytes.as_slice(),
-                out,
-            ),
-            Line::Flow { partition, most } => self.flow(alloc, number, *partition, *most, out),
-            Line::FlowAll { most } => self.flow_all(alloc, number, *most, out),
-            Line::Crash { member } => self.run_fate(alloc, number, Fate::Crash(*member), out),
-            Line::Detect { member } => self.run_fate(alloc, number, Fate::Detect(*member), out),
-            Line::Clock { member, moment } => {
-                self.set_clock(alloc, number, *member, *moment, out)
+            Line::Arrive { conn, bytes } => {
+                self.arrive(alloc, number, *conn, bytes.as_slice(), &mut out.told)
             }
-            Line::Rebalance { most } => self.rebalance(alloc, number, *most, out),
+            Line::Flow { partition, most } => {
+                self.flow(alloc, number, *partition, *most, &mut out.told)
+            }
+            Line::FlowAll { most } => self.flow_all(alloc, number, *most, &mut out.told),
+            Line::Crash { member } => {
+                self.run_fate(alloc, number, Fate::Crash(*member), &mut out.told)
+            }
+            Line::Detect { member } => {
+                self.run_fate(alloc, number, Fate::Detect(*member), &mut out.told)
+            }
+            Line::Clock { member, moment } => {
+                self.set_clock(alloc, number, *member, *moment, &mut out.told)
+            }
+            Line::Rebalance { most } => self.rebalance(alloc, number, *most, &mut out.told),
             _ => Ok(self.run_quiet_line(alloc, number, line, out)?),
         }
     }
@@ -174,51 +178,63 @@ impl Grid {
         alloc: Global,
         number: u32,
         line: &Line,
-        out: &mut Vec<u8>,
+        out: &mut Ready,
     ) -> Result<(), Memory>
         requires may { MayRun (boxed form) self.old number line.now }
         requires quiet { is_quiet line.now ≡ true }
-        ensures { (settings : Settings) (r : Run) → Stands (boxed form) settings self.old r → OnOk result (HasRun (boxed form) settings self.new r line.now out.old.items out.new.items) }
+        ensures { (settings : Settings) (r : Run) → Stands (boxed form) settings self.old r
+            → OnOk result (HasGiven (boxed form) settings self.new r line.now out.old out.new) }
     {
         match line {
-            Line::OpenConn { conn, member } => self.open(alloc, number, *conn, *member, out),
+            Line::OpenConn { conn, member } => {
+                self.open(alloc, number, *conn, *member, &mut out.told)
+            }
             Line::Dump { partition, member } => {
                 self.dump(alloc, number, *partition, *member, out)
             }
             Line::Links { partition } => self.push_links(alloc, number, *partition, out),
             Line::Trail { partition } => self.trail(alloc, number, *partition, out),
-            Line::Comment => self.count(number, out),
-            Line::MasterFlow { .. } => self.flow_nothing(number, out),
+            Line::Comment => self.count(number, &mut out.told),
+            Line::MasterFlow { .. } => self.flow_nothing(number, &mut out.told),
             Line::End => self.end(alloc, number, out),
-            _ => self.pass(number, out),
+            _ => self.pass(number, &mut out.told),
         }
     }
 
-    /// Counts a line that ran.
-    pub(crate) fn count(&mut self, number: u32, out: &mut Vec<u8>) -> Result<(), Memory>
-        ensures grid { self.new ≡ record self.old { lines = number } }
-        ensures text { OnOk result (out.new.items ≡ out.old.items ++ ok_text number) }
+    /// Counts the line of that number, which is the next one and is taken apart: its events are then taken one by one.
+    /// Takes no memory.
+    pub fn begin_line(&mut self, number: u32)
+        requires { MayRun (boxed form) self.old number Line.Comment }
+        ensures { (settings : Settings) (r : Run) → Stands (boxed form) settings self.old r → Stands (boxed form) settings self.new (next_line r) }
     {
         self.lines = number;
-        push_ok(out, number)
+    }
+
+    /// Counts a line that ran.
+    pub(crate) fn count(&mut self, number: u32, out: &mut Vec<Told>) -> Result<(), Memory>
+        ensures grid { self.new ≡ record self.old { lines = number } }
+        ensures told { OnOk result (out.new.items ≡ out.old.items ++ came_to outcome.Ran) }
+    {
+        self.lines = number;
+        tell_outcome(out, LineOutcome::Ran)
     }
 
     /// `mflow P K` finds no message: without masters there are none between them.
-    fn flow_nothing(&mut self, number: u32, out: &mut Vec<u8>) -> Result<(), Memory>
+    fn flow_nothing(&mut self, number: u32, out: &mut Vec<Told>) -> Result<(), Memory>
         ensures grid { self.new ≡ record self.old { lines = number } }
-        ensures text { OnOk result (out.new.items ≡ out.old.items ++ flow_text number 0) }
+        ensures told { OnOk result (out.new.items ≡ out.old.items ++ came_to (outcome.Flowed 0)) }
     {
         self.lines = number;
-        push_flow(out, number, 0)
+        tell_outcome(out, LineOutcome::Flowed { deliveries: 0 })
     }
 
     /// Counts a line whose condition is false.
-    pub(crate) fn pass(&mut self, number: u32, out: &mut Vec<u8>) -> Result<(), Memory>
+    pub(crate) fn pass(&mut self, number: u32, out: &mut Vec<Told>) -> Result<(), Memory>
         ensures grid { self.new ≡ record self.old { lines = number } }
-        ensures text { OnOk result (out.new.items ≡ out.old.items ++ nothing_text number) }
+        ensures told { OnOk result (out.new.items ≡ out.old.items ++ came_to outcome.Idle) }
     {
         self.lines = number;
-        push_nothing(out, number)
+        tell_outcome(out, LineOutcome::Idle)
     }
 
     /// Whether a member hasn't crashed: that is so in all partitions, or in none.
@@ -236,7 +252,7 @@ impl Grid {
         number: u32,
         conn: u32,
         member: MemberId,
-        out: &mut Vec<u8>,
+        out: &mut Vec<Told>,
     ) -> Result<(), Memory>
         requires { MayRun (boxed form) self.old number (Line.OpenConn conn member) }
         ensures { (settings : Settings) (r : Run) → Stands (boxed form) settings self.old r → OnOk result (HasRun (boxed form) settings self.new r (Line.OpenConn conn member) out.old.items out.new.items) }
@@ -255,7 +271,7 @@ impl Grid {
         number: u32,
         member: MemberId,
         moment: Moment,
-        out: &mut Vec<u8>,
+        out: &mut Vec<Told>,
     ) -> Result<(), RunEnd>
         requires { MayRun (boxed form) self.old number (Line.Clock member moment) }
         ensures ok { (settings : Settings) (r : Run) → Stands (boxed form) settings self.old r → OnOk result (HasRun (boxed form) settings self.new r (Line.Clock member moment) out.old.items out.new.items) }

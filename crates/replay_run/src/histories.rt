@@ -8,15 +8,15 @@ ghost use Rattle.call_engine.specs.Objects.{partition_object};
 ghost use Rattle.partition_world.specs.RecordedEntries.{entry_of};
 ghost use Rattle.replay_run.specs.Runs.{Run, partitions, reopened_at, world_at};
 ghost use Rattle.replay_run.specs.Printing.{entry_text, entries_of, all_entries};
-ghost use Rattle.replay_run.specs.Grids.{boxed, Stands, MayRun, HasRun};
+ghost use Rattle.replay_run.specs.Grids.{boxed, Stands, MayRun, HasGiven};
 
-use crate::dumps::{push_dump, push_dumped};
+use crate::dumps::push_dumped;
 use crate::entries::{EntryPlace, line_at, push_entry, resets_of};
 use crate::grid::Grid;
 use crate::links::{in_flight, push_in_flight};
-use crate::outcomes::push_links;
-use crate::print::push_trail;
+use crate::messages::tell_outcome;
 use grid_base::{MemberId, Memory, PARTITIONS, PartitionId, Request};
+use line_told::{LineOutcome, Ready};
 use partition_world::Trail;
 use replica_node::Contents;
 use script_lang::Line;
@@ -30,15 +30,16 @@ impl Grid {
         number: u32,
         partition: PartitionId,
         member: MemberId,
-        out: &mut Vec<u8>,
+        out: &mut Ready,
     ) -> Result<(), Memory>
         requires { MayRun (boxed form) self.old number (Line.Dump partition member) }
-        ensures { (settings : Settings) (r : Run) → Stands (boxed form) settings self.old r → OnOk result (HasRun (boxed form) settings self.new r (Line.Dump partition member) out.old.items out.new.items) }
+        ensures { (settings : Settings) (r : Run) → Stands (boxed form) settings self.old r
+            → OnOk result (HasGiven (boxed form) settings self.new r (Line.Dump partition member) out.old out.new) }
     {
         self.lines = number;
         let Contents { pair, shelf } = self.worlds[usize::from(partition)].contents(member);
-        push_dump(out, number, pair)?;
-        push_dumped(alloc, out, number, shelf)
+        tell_outcome(&mut out.told, LineOutcome::Dumped(pair))?;
+        push_dumped(alloc, &mut out.printed, number, shelf)
     }
 
     /// `links P`: prints a partition's messages in flight.
@@ -47,16 +48,18 @@ impl Grid {
         alloc: Global,
         number: u32,
         partition: PartitionId,
-        out: &mut Vec<u8>,
+        out: &mut Ready,
     ) -> Result<(), Memory>
         requires { MayRun (boxed form) self.old number (Line.Links partition) }
-        ensures { (settings : Settings) (r : Run) → Stands (boxed form) settings self.old r → OnOk result (HasRun (boxed form) settings self.new r (Line.Links partition) out.old.items out.new.items) }
+        ensures { (settings : Settings) (r : Run) → Stands (boxed form) settings self.old r
+            → OnOk result (HasGiven (boxed form) settings self.new r (Line.Links partition) out.old out.new) }
     {
         self.lines = number;
         let links = self.links.as_slice();
         let world = &self.worlds[usize::from(partition)];
-        push_links(out, number, in_flight(links, world))?;
-        push_in_flight(alloc, out, number, links, world)
+        let messages = in_flight(links, world);
+        tell_outcome(&mut out.told, LineOutcome::InFlight { messages })?;
+        push_in_flight(alloc, &mut out.printed, number, links, world)
     }
 
     /// `trail P`: prints a partition's recorded history.
@@ -65,29 +68,27 @@ impl Grid {
         alloc: Global,
         number: u32,
         partition: PartitionId,
-        out: &mut Vec<u8>,
+        out: &mut Ready,
     ) -> Result<(), Memory>
         requires { MayRun (boxed form) self.old number (Line.Trail partition) }
-        ensures { (settings : Settings) (r : Run) → Stands (boxed form) settings self.old r → OnOk result (HasRun (boxed form) settings self.new r (Line.Trail partition) out.old.items out.new.items) }
+        ensures { (settings : Settings) (r : Run) → Stands (boxed form) settings self.old r
+            → OnOk result (HasGiven (boxed form) settings self.new r (Line.Trail partition) out.old out.new) }
     {
         self.lines = number;
         let trail = self.worlds[usize::from(partition)].trail(alloc)?;
-        push_trail(out, number, trail.len())?;
-        self.push_entries(alloc, partition, &trail, out)
+        let entries = trail.len();
+        tell_outcome(&mut out.told, LineOutcome::Trail { entries })?;
+        self.push_entries(alloc, partition, &trail, &mut out.printed)
     }
 
     /// `end`: prints all recorded histories.
-    pub(crate) fn end(
-        &mut self,
-        alloc: Global,
-        number: u32,
-        out: &mut Vec<u8>,
-    ) -> Result<(), Memory>
+    pub(crate) fn end(&mut self, alloc: Global, number: u32, out: &mut Ready) -> Result<(), Memory>
         requires { MayRun (boxed form) self.old number Line.End }
-        ensures { (settings : Settings) (r : Run) → Stands (boxed form) settings self.old r → OnOk result (HasRun (boxed form) settings self.new r Line.End out.old.items out.new.items) }
+        ensures { (settings : Settings) (r : Run) → Stands (boxed form) settings self.old r
+            → OnOk result (HasGiven (boxed form) settings self.new r Line.End out.old out.new) }
     {
-        self.count(number, out)?;
-        self.push_histories(alloc, out)
+        self.count(number, &mut out.told)?;
+        self.push_histories(alloc, &mut out.printed)
     }
 
     /// Appends the recorded histories of all partitions.

@@ -9,8 +9,8 @@ ghost use Rattle.partition_world.specs.Worlds.{StandsFor, run_of};
 ghost use Rattle.partition_world.specs.LinkOrder.{links_from, links_of};
 ghost use Rattle.replay_run.specs.Printing.{link_text_from, message_text};
 
-use crate::print::{push_hex, push_number, push_text, push_word};
 use grid_base::{Bytes, Memory, Shelf};
+use line_told::{push_hex, push_number, push_text, push_word};
 use partition_world::{Link, Records, World};
 use std::alloc::Global;
 

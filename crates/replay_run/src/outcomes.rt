@@ -1,38 +1,19 @@
 //! What an event came to, in the words of a transcript.
 
 ghost use Rattle.std.specs.Prelude.{◌≡◌, ◌++◌, OnOk};
-ghost use Rattle.table_service.specs.Refusals.{why_not_moved, why_not_reopened};
 ghost use Rattle.partition_world.specs.Events.{event_of, happened_of};
-ghost use Rattle.replay_run.specs.Printing.{refusal_words, move_refused_word, reopen_refused_word, done_word, words_of, fate_words, words_line, flow_text, links_text};
+ghost use Rattle.replay_run.specs.LineTold.{is_advance};
+ghost use Rattle.replay_run.specs.Printing.{done_word, words_of, fate_words, words_line, flow_text};
 
-use crate::print::{push_number, push_text};
 use grid_base::{Memory, Request};
-use itoa::Buffer;
+use line_told::{push_decimal, push_number, push_text, push_words};
 use partition_world::{Event, Happened};
-use table_service::{MoveRefused, ReopenRefused};
 
-/// Why a move, a join or a handover wasn't begun.
-fn move_refused_word(why: MoveRefused) -> &'static str
-    ensures { result.now ≡ move_refused_word (why_not_moved why) }
+/// Whether an event is an advance.
+pub(crate) fn is_advance(event: &Event<Request>) -> bool
+    ensures { result ≡ is_advance (event_of event.now) }
 {
-    match why {
-        MoveRefused::Lost => "lost",
-        MoveRefused::NotIdle => "notidle",
-        MoveRefused::NotThere => "notthere",
-        MoveRefused::AlreadyThere => "alreadythere",
-        MoveRefused::NotLive => "notlive",
-        MoveRefused::NotEligible => "noteligible",
-    }
-}
-
-/// Why a partition wasn't reopened.
-fn reopen_refused_word(why: ReopenRefused) -> &'static str
-    ensures { result.now ≡ reopen_refused_word (why_not_reopened why) }
-{
-    match why {
-        ReopenRefused::NotLost => "notlost",
-        ReopenRefused::NoMember => "nomember",
-    }
+    matches!(event, Event::Advance)
 }
 
 /// What an event's line says where the event is done, and there is no more to tell.
@@ -42,35 +23,6 @@ pub fn done_word(event: &Event<Request>) -> &'static str
     match event {
         Event::Advance => "freezing",
         _ => "ok",
-    }
-}
-
-/// Appends why something was refused.
-fn push_refused(out: &mut Vec<u8>, word: &str) -> Result<(), Memory>
-    ensures { OnOk result (out.new.items ≡ out.old.items ++ refusal_words word.now) }
-{
-    push_text(out, b"refused ")?;
-    push_text(out, word.as_bytes())
-}
-
-/// Appends what an event came to, with the word of one that is done.
-fn push_words(out: &mut Vec<u8>, done: &str, happened: Happened) -> Result<(), Memory>
-    ensures { OnOk result (out.new.items ≡ out.old.items ++ words_of done.now (happened_of happened)) }
-{
-    match happened {
-        Happened::Nothing => push_text(out, b"nothing"),
-        Happened::Done => push_text(out, done.as_bytes()),
-        Happened::Called(_) => push_text(out, b"ok"),
-        Happened::Took(took) => {
-            push_text(out, b"took ")?;
-            push_text(out, took.word().as_bytes())
-        }
-        Happened::RowMade { version } => {
-            push_text(out, b"row ")?;
-            push_text(out, Buffer::new().format(version).as_bytes())
-        }
-        Happened::MoveRefused(why) => push_refused(out, move_refused_word(why)),
-        Happened::ReopenRefused(why) => push_refused(out, reopen_refused_word(why)),
     }
 }
 
@@ -113,16 +65,6 @@ pub fn push_flow(out: &mut Vec<u8>, line: u32, deliveries: u32) -> Result<(), Me
 {
     push_number(out, u64::from(line))?;
     push_text(out, b"flow ")?;
-    push_text(out, Buffer::new().format(deliveries).as_bytes())?;
-    push_text(out, b"\n")
-}
-
-/// Appends the outcome of a line that prints so many messages in flight.
-pub(crate) fn push_links(out: &mut Vec<u8>, line: u32, messages: u128) -> Result<(), Memory>
-    ensures { OnOk result (out.new.items ≡ out.old.items ++ links_text line messages) }
-{
-    push_number(out, u64::from(line))?;
-    push_text(out, b"links ")?;
-    push_text(out, Buffer::new().format(messages).as_bytes())?;
+    push_decimal(out, u64::from(deliveries))?;
     push_text(out, b"\n")
 }

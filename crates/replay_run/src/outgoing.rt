@@ -9,14 +9,15 @@ ghost use Rattle.listeners.specs.declared.listener.Listener.{Listener as Listene
 ghost use Rattle.partition_protocol.specs.Events.{Event as ProtocolEvent};
 ghost use Rattle.partition_world.specs.Worlds.{StandsFor, run_of, node_count, waiting};
 ghost use Rattle.replay_run.specs.Runs.{Run, hears, message_of, events_to, version_known, if_newer, row_messages, release_messages};
-ghost use Rattle.replay_run.specs.Printing.{appended_text};
+ghost use Rattle.replay_run.specs.LineTold.{all_told, message_told};
 ghost use Rattle.replay_run.specs.Tables.{with_answer};
 ghost use Rattle.replay_run.specs.Grids.{HasConnections};
-ghost use Rattle.replay_run.specs.WorldCalls.{texts_of, GivesOut, AreOfRun, IsAppended, MarksGoing};
+ghost use Rattle.replay_run.specs.WorldCalls.{GivesOut, AreOfRun, IsAppended, MarksGoing};
 
 use crate::connections::Connections;
-use crate::print::push_appended;
+use crate::messages::{message_of, own_answer, tell_message};
 use grid_base::{Bytes, MemberId, Memory, PartitionId, Shelf};
+use line_told::Told;
 use listeners::Listeners;
 use partition_table::Row;
 use partition_world::{Records, World};
@@ -52,16 +53,11 @@ pub(crate) fn version_known<S: Shelf, R: Records<S::Call>>(
 }
 
 /// Appends events, each to its listener's connection.
-fn push_events(
-    alloc: Global,
-    line: u32,
-    events: &[(u32, Bytes)],
-    out: &mut Vec<u8>,
-) -> Result<(), Memory>
-    ensures { OnOk result (out.new.items ≡ out.old.items ++ texts_of (events_to line events.now)) }
+fn push_events(line: u32, events: Vec<(u32, Bytes)>, out: &mut Vec<Told>) -> Result<(), Memory>
+    ensures { OnOk result (out.new.items ≡ out.old.items ++ all_told (events_to line events.items)) }
 {
     for event in events {
-        push_appended(alloc, out, line, event.0, event.1.as_slice())?;
+        tell_message(out, own_answer(line, event.0, event.1))?;
     }
     Ok(())
 }
@@ -72,32 +68,31 @@ fn push_adopted(
     at: Reaching,
     row: &Row,
     listeners: &Listeners,
-    out: &mut Vec<u8>,
+    out: &mut Vec<Told>,
 ) -> Result<(), Memory>
     ensures { (all : List ListenerOf) → StandFor listeners.now all
-        → OnOk result (out.new.items ≡ out.old.items ++ texts_of (row_messages at.line at.partition all (if_newer at.known row.now))) }
+        → OnOk result (out.new.items ≡ out.old.items ++ all_told (row_messages at.line at.partition all (if_newer at.known row.now))) }
 {
     if row.version == at.known {
         return Ok(());
     }
     let rows = [(at.partition, row.copied(alloc)?)];
     let events = listeners.rows_of(&rows)?;
-    push_events(alloc, at.line, events.as_slice(), out)
+    push_events(at.line, events, out)
 }
 
 /// Gives out an answer: marks its call as answered, and appends it as a message.
 fn give(
-    alloc: Global,
     connections: &mut Connections,
     line: u32,
     answer: CallAnswer,
-    out: &mut Vec<u8>,
+    out: &mut Vec<Told>,
 ) -> Result<(), Memory>
     ensures table { connections.new ≡ with_answer connections.old answer.id line }
-    ensures text { OnOk result (out.new.items ≡ out.old.items ++ appended_text (message_of line answer)) }
+    ensures told { OnOk result (out.new.items ≡ out.old.items ++ message_told (message_of line answer)) }
 {
     connections.answer(answer.id, line);
-    push_appended(alloc, out, line, answer.id.conn, answer.reply.as_slice())
+    tell_message(out, message_of(line, answer))
 }
 
 /// Whether an answer to a connection goes out: where that is open, or is the one of the call at hand, whose close comes
@@ -111,41 +106,39 @@ fn goes_out(connections: &Connections, own: Option<u32>, conn: u32) -> bool
 /// Releases an answer: those who listen to the map whose value its call changed are told first, and then it goes out,
 /// where its connection is open or is the one of the call at hand.
 fn release(
-    alloc: Global,
     at: Reaching,
     answer: CallAnswer,
     listeners: &Listeners,
     connections: &mut Connections,
-    out: &mut Vec<u8>,
+    out: &mut Vec<Told>,
 ) -> Result<(), Memory>
-    ensures text { (r : Run) (all : List ListenerOf) → r.lines ≡ at.line → HasConnections connections.old r → StandFor listeners.now all
-        → OnOk result (out.new.items ≡ out.old.items ++ texts_of (release_messages r at.own at.partition all answer)) }
+    ensures told { (r : Run) (all : List ListenerOf) → r.lines ≡ at.line → HasConnections connections.old r → StandFor listeners.now all
+        → OnOk result (out.new.items ≡ out.old.items ++ all_told (release_messages r at.own at.partition all answer)) }
     ensures table { (r : Run) → HasConnections connections.old r → OnOk result (MarksGoing r at (answer ∷ []) connections.old connections.new) }
 {
     let events = listeners.events_of(at.partition, &answer)?;
-    push_events(alloc, at.line, events.as_slice(), out)?;
+    push_events(at.line, events, out)?;
     if goes_out(connections, at.own, answer.id.conn) {
-        give(alloc, connections, at.line, answer, out)?;
+        give(connections, at.line, answer, out)?;
     }
     Ok(())
 }
 
 /// Takes the answers that wait at a member, the oldest first, and releases them.
 fn give_out<S: Shelf, R: Records<S::Call>>(
-    alloc: Global,
     at: Reaching,
     world: &mut World<S, R>,
     listeners: &Listeners,
     connections: &mut Connections,
-    out: &mut Vec<u8>,
+    out: &mut Vec<Told>,
 ) -> Result<(), Memory>
-    ensures text { (r : Run) (all : List ListenerOf) → r.lines ≡ at.line → HasConnections connections.old r → StandFor listeners.now all
-        → OnOk result (out.new.items ≡ out.old.items ++ texts_of (flat_map (release_messages r at.own at.partition all) (waiting world.old at.member))) }
+    ensures told { (r : Run) (all : List ListenerOf) → r.lines ≡ at.line → HasConnections connections.old r → StandFor listeners.now all
+        → OnOk result (out.new.items ≡ out.old.items ++ all_told (flat_map (release_messages r at.own at.partition all) (waiting world.old at.member))) }
     ensures table { (r : Run) → HasConnections connections.old r → OnOk result (MarksGoing r at (waiting world.old at.member) connections.old connections.new) }
     ensures world { OnOk result (GivesOut (meaning S.model) R.records S.model.within_limits world.old world.new at.member) }
 {
     while let Some(answer) = world.pop_released(at.member) {
-        release(alloc, at, answer, listeners, connections, out)?;
+        release(at, answer, listeners, connections, out)?;
     }
     Ok(())
 }
@@ -160,10 +153,10 @@ pub(crate) fn append_reached<S: Shelf, R: Records<S::Call>>(
     world: &mut World<S, R>,
     listeners: &[Listeners],
     connections: &mut Connections,
-    out: &mut Vec<u8>,
+    out: &mut Vec<Told>,
 ) -> Result<(), Memory>
     requires { length listeners.now ≡ node_count world.old }
-    ensures text { (plan : S.Plan) (events : List (ProtocolEvent S.Call)) (r : Run) (all : List ListenerOf) → AreOfRun connections.old listeners.now at r all
+    ensures told { (plan : S.Plan) (events : List (ProtocolEvent S.Call)) (r : Run) (all : List ListenerOf) → AreOfRun connections.old listeners.now at r all
         → OnOk result (IsAppended (meaning S.model plan) R.records S.model.within_limits world.old events at r all out.old.items out.new.items) }
     ensures table { (r : Run) → HasConnections connections.old r → OnOk result (MarksGoing r at (waiting world.old at.member) connections.old connections.new) }
     ensures world { OnOk result (GivesOut (meaning S.model) R.records S.model.within_limits world.old world.new at.member) }
@@ -172,5 +165,5 @@ pub(crate) fn append_reached<S: Shelf, R: Records<S::Call>>(
         return Ok(());
     };
     push_adopted(alloc, at, world.known(at.member), here, out)?;
-    give_out(alloc, at, world, here, connections, out)
+    give_out(at, world, here, connections, out)
 }

@@ -1,25 +1,25 @@
 //! The line that deals the primaries out evenly: the plan for the grid's rows, and the events of its steps.
 
-ghost use Rattle.std.specs.Prelude.{◌≡◌, ◌<◌, ◌∷◌, ◌++◌, [], true, Err, take, IfOk, OnOk, IsErrOf};
-ghost use Rattle.std.specs.List.{flat_map};
+ghost use Rattle.std.specs.Prelude.{◌≡◌, ◌<◌, ◌∷◌, ◌++◌, [], true, Err, take, map, IfOk, OnOk, IsErrOf};
 ghost use Rattle.partition_world.specs.Events.{event_of};
 ghost use Rattle.rebalance.specs.declared.StepKind.TheVariants.{Handover};
-ghost use Rattle.rebalance.specs.Plans.{Planned, Gives, NoMember, Unsettled};
+ghost use Rattle.rebalance.specs.Plans.{Planned, Gives};
 ghost use Rattle.call_engine.specs.Calls.{Settings};
 ghost use Rattle.call_engine.specs.Objects.{partition_object};
 ghost use Rattle.script_lang.specs.declared.line.Line.TheVariants as ScriptLines;
 ghost use Rattle.replay_run.specs.Runs.{Run, partitions};
 ghost use Rattle.replay_run.specs.Rebalancing.{is_moving_at, rows_in, marks_in, is_detected_in, detected_in, plan_in, event_begun, first_resends, turned, turned_on, joined, rejoined, stepped, stepped_all, most_line_events};
-ghost use Rattle.replay_run.specs.RebalancingTexts.{kind_word, step_text, steps_text, plan_text, end_word, end_text};
+ghost use Rattle.line_told.specs.declared.told.Told.TheVariants as told;
+ghost use Rattle.replay_run.specs.LineTold.{steps_told, plan_told, end_told};
 ghost use Rattle.replay_run.specs.Grids.{boxed, Stands, MayRun, HasRun, IsGivenUp};
 ghost use Rattle.replay_run.specs.WorldCalls.{HasRoomAt, IsAmid, HasGoneOnSo, GivesUpSo, MayStep, HasStepped, HasNoSteps};
 ghost use Rattle.replay_run.specs.declared.run_end.RunEnd.TheVariants as RunEnds;
 
 use crate::grid::Grid;
-use crate::print::{push_number, push_text};
+use crate::messages::tell_outcome;
 use crate::run_end::RunEnd;
 use grid_base::{MemberId, Memory, PARTITIONS, PartitionId, Request};
-use itoa::Buffer;
+use line_told::{LineOutcome, Told};
 use partition_table::Row;
 use partition_world::Event;
 use rebalance::{Plan, PlanRefused, Step, StepKind, plan};
@@ -49,99 +49,42 @@ fn first_steps(steps: &[Step], most: u32) -> &[Step]
     &steps[..(most as usize).min(steps.len())]
 }
 
-fn kind_word(kind: StepKind) -> &'static str
-    ensures { result.now ≡ kind_word kind }
-{
-    match kind {
-        StepKind::Move => "move",
-        StepKind::Handover => "handover",
-    }
-}
-
-/// Appends a step of a plan.
-fn push_step(out: &mut Vec<u8>, line: u32, step: Step) -> Result<(), Memory>
-    ensures { OnOk result (out.new.items ≡ out.old.items ++ step_text line step) }
-{
-    push_number(out, u64::from(line))?;
-    push_text(out, b"step ")?;
-    push_number(out, u64::from(step.partition))?;
-    push_number(out, u64::from(step.from))?;
-    push_number(out, u64::from(step.to))?;
-    push_text(out, kind_word(step.kind).as_bytes())?;
-    push_text(out, b"\n")
-}
-
-/// Appends the steps of a plan.
-fn push_steps(out: &mut Vec<u8>, line: u32, steps: &[Step]) -> Result<(), Memory>
-    ensures { OnOk result (out.new.items ≡ out.old.items ++ flat_map (step_text line) steps.now) }
+/// Tells the steps of a plan.
+fn tell_steps(out: &mut Vec<Told>, steps: &[Step]) -> Result<(), Memory>
+    ensures { OnOk result (out.new.items ≡ out.old.items ++ map told.Step steps.now) }
 {
     for step in steps {
-        push_step(out, line, *step)?;
+        out.push(Told::Step(*step))?;
     }
     Ok(())
 }
 
-/// Appends a plan: how many steps it has, and each of them.
-fn push_plan(out: &mut Vec<u8>, line: u32, steps: &[Step]) -> Result<(), Memory>
-    ensures { OnOk result (out.new.items ≡ out.old.items ++ steps_text line steps.now) }
+/// Tells a plan: how many steps it has, and each of them.
+fn tell_plan(out: &mut Vec<Told>, steps: &[Step]) -> Result<(), Memory>
+    ensures { OnOk result (out.new.items ≡ out.old.items ++ steps_told steps.now) }
 {
-    push_number(out, u64::from(line))?;
-    push_text(out, b"plan ")?;
-    push_text(out, Buffer::new().format(steps.len() as u64).as_bytes())?;
-    push_text(out, b"\n")?;
-    push_steps(out, line, steps)
+    tell_outcome(out, LineOutcome::Planned { steps: steps.len() })?;
+    tell_steps(out, steps)
 }
 
-/// Appends that there is no plan, as every member is detected.
-fn push_no_member(out: &mut Vec<u8>, line: u32) -> Result<(), Memory>
-    ensures { OnOk result (out.new.items ≡ out.old.items ++ plan_text line NoMember) }
-{
-    push_number(out, u64::from(line))?;
-    push_text(out, b"refused nomember")?;
-    push_text(out, b"\n")
-}
-
-/// Appends that there is no plan, as that partition isn't settled.
-fn push_unsettled(out: &mut Vec<u8>, line: u32, partition: PartitionId) -> Result<(), Memory>
-    ensures { OnOk result (out.new.items ≡ out.old.items ++ plan_text line (Unsettled partition)) }
-{
-    push_number(out, u64::from(line))?;
-    push_text(out, b"refused unsettled ")?;
-    push_text(out, Buffer::new().format(partition).as_bytes())?;
-    push_text(out, b"\n")
-}
-
-/// Appends why there is no plan; want of memory is handed on.
-fn push_no_plan(out: &mut Vec<u8>, line: u32, why: PlanRefused) -> Result<(), Memory>
-    ensures { OnOk result ((planned : Planned) → Gives (Err why) planned → HasNoSteps planned × (out.new.items ≡ out.old.items ++ plan_text line planned)) }
+/// Tells why there is no plan; want of memory is handed on.
+fn tell_no_plan(out: &mut Vec<Told>, why: PlanRefused) -> Result<(), Memory>
+    ensures { OnOk result ((planned : Planned) → Gives (Err why) planned → HasNoSteps planned × (out.new.items ≡ out.old.items ++ plan_told planned)) }
 {
     match why {
-        PlanRefused::NoMember => push_no_member(out, line),
-        PlanRefused::Unsettled { partition } => push_unsettled(out, line, partition),
+        PlanRefused::NoMember => tell_outcome(out, LineOutcome::NoMember),
+        PlanRefused::Unsettled { partition } => {
+            tell_outcome(out, LineOutcome::Unsettled { partition })
+        }
         PlanRefused::Memory => Err(AllocError),
     }
 }
 
-/// The word for a step that was run, by whether a move is still under way.
-fn end_word(moving: bool) -> &'static str
-    ensures { result.now ≡ end_word moving }
+/// Tells how a step ended: its move is done, or still under way.
+fn tell_ended(out: &mut Vec<Told>, partition: PartitionId, moving: bool) -> Result<(), Memory>
+    ensures { OnOk result (out.new.items ≡ out.old.items ++ end_told partition moving) }
 {
-    if moving { "open " } else { "done " }
-}
-
-/// Appends how a step ended: its move is done, or still under way.
-fn push_end(
-    out: &mut Vec<u8>,
-    line: u32,
-    partition: PartitionId,
-    moving: bool,
-) -> Result<(), Memory>
-    ensures { OnOk result (out.new.items ≡ out.old.items ++ end_text line partition moving) }
-{
-    push_number(out, u64::from(line))?;
-    push_text(out, end_word(moving).as_bytes())?;
-    push_text(out, Buffer::new().format(partition).as_bytes())?;
-    push_text(out, b"\n")
+    Ok(out.push(Told::Ended { partition, moving })?)
 }
 
 impl Grid {
@@ -221,7 +164,7 @@ impl Grid {
         &mut self,
         alloc: Global,
         partition: PartitionId,
-        out: &mut Vec<u8>,
+        out: &mut Vec<Told>,
     ) -> Result<(), RunEnd>
         requires placed { partition < partitions }
         requires stands { (settings : Settings) × (r : Run) × IsAmid (boxed form) settings self.old r × HasRoomAt r partition 1 }
@@ -243,7 +186,7 @@ impl Grid {
         &mut self,
         alloc: Global,
         partition: PartitionId,
-        out: &mut Vec<u8>,
+        out: &mut Vec<Told>,
     ) -> Result<(), RunEnd>
         requires placed { partition < partitions }
         requires stands { (settings : Settings) × (r : Run) × IsAmid (boxed form) settings self.old r × HasRoomAt r partition 1003 }
@@ -264,7 +207,7 @@ impl Grid {
         &mut self,
         alloc: Global,
         partition: PartitionId,
-        out: &mut Vec<u8>,
+        out: &mut Vec<Told>,
     ) -> Result<(), RunEnd>
         requires placed { partition < partitions }
         requires stands { (settings : Settings) × (r : Run) × IsAmid (boxed form) settings self.old r × HasRoomAt r partition 4012 }
@@ -289,7 +232,7 @@ impl Grid {
         alloc: Global,
         partition: PartitionId,
         member: MemberId,
-        out: &mut Vec<u8>,
+        out: &mut Vec<Told>,
     ) -> Result<(), RunEnd>
         requires placed { partition < partitions }
         requires stands { (settings : Settings) × (r : Run) × IsAmid (boxed form) settings self.old r × HasRoomAt r partition 1001 }
@@ -308,7 +251,7 @@ impl Grid {
         alloc: Global,
         partition: PartitionId,
         from: MemberId,
-        out: &mut Vec<u8>,
+        out: &mut Vec<Told>,
     ) -> Result<(), RunEnd>
         requires placed { partition < partitions }
         requires stands { (settings : Settings) × (r : Run) × IsAmid (boxed form) settings self.old r × HasRoomAt r partition 1001 }
@@ -329,7 +272,7 @@ impl Grid {
         partition: PartitionId,
         from: MemberId,
         kind: StepKind,
-        out: &mut Vec<u8>,
+        out: &mut Vec<Told>,
     ) -> Result<(), RunEnd>
         requires placed { partition < partitions }
         requires stands { (settings : Settings) × (r : Run) × IsAmid (boxed form) settings self.old r × HasRoomAt r partition 1001 }
@@ -344,7 +287,7 @@ impl Grid {
     }
 
     /// Runs a step: it begins, and goes on for some turns, until no move is under way.
-    fn run_step(&mut self, alloc: Global, step: Step, out: &mut Vec<u8>) -> Result<(), RunEnd>
+    fn run_step(&mut self, alloc: Global, step: Step, out: &mut Vec<Told>) -> Result<(), RunEnd>
         requires placed { step.partition < partitions }
         requires stands { (settings : Settings) × (r : Run) × IsAmid (boxed form) settings self.old r × HasRoomAt r step.partition most_line_events }
         ensures ok { (settings : Settings) (r : Run) → IsAmid (boxed form) settings self.old r
@@ -363,7 +306,7 @@ impl Grid {
     }
 
     /// Runs a step, and tells how it ended.
-    fn run_told(&mut self, alloc: Global, step: Step, out: &mut Vec<u8>) -> Result<(), RunEnd>
+    fn run_told(&mut self, alloc: Global, step: Step, out: &mut Vec<Told>) -> Result<(), RunEnd>
         requires placed { step.partition < partitions }
         requires stands { (settings : Settings) × (r : Run) × IsAmid (boxed form) settings self.old r × HasRoomAt r step.partition most_line_events }
         ensures ok { (settings : Settings) (r : Run) → IsAmid (boxed form) settings self.old r → OnOk result (HasStepped (boxed form) settings self.new r (step ∷ []) out.old.items out.new.items) }
@@ -371,11 +314,16 @@ impl Grid {
     {
         self.run_step(alloc, step, out)?;
         let moving = self.is_moving(step.partition);
-        Ok(push_end(out, self.lines, step.partition, moving)?)
+        Ok(tell_ended(out, step.partition, moving)?)
     }
 
     /// Runs steps, and tells after each how it ended.
-    fn run_steps(&mut self, alloc: Global, steps: &[Step], out: &mut Vec<u8>) -> Result<(), RunEnd>
+    fn run_steps(
+        &mut self,
+        alloc: Global,
+        steps: &[Step],
+        out: &mut Vec<Told>,
+    ) -> Result<(), RunEnd>
         requires { (settings : Settings) × (r : Run) × IsAmid (boxed form) settings self.old r × MayStep r 0 steps.now }
         ensures ok { (settings : Settings) (r : Run) → IsAmid (boxed form) settings self.old r → OnOk result (HasStepped (boxed form) settings self.new r steps.now out.old.items out.new.items) }
         ensures full { (settings : Settings) (r : Run) → IsAmid (boxed form) settings self.old r → IsErrOf result RunEnds.InFlight → GivesUpSo r (λ skips. stepped_all (partition_object settings) skips r steps.now) }
@@ -392,7 +340,7 @@ impl Grid {
         alloc: Global,
         number: u32,
         most: u32,
-        out: &mut Vec<u8>,
+        out: &mut Vec<Told>,
     ) -> Result<(), RunEnd>
         requires { MayRun (boxed form) self.old number (ScriptLines.Rebalance most) }
         ensures ok { (settings : Settings) (r : Run) → Stands (boxed form) settings self.old r → OnOk result (HasRun (boxed form) settings self.new r (ScriptLines.Rebalance most) out.old.items out.new.items) }
@@ -402,10 +350,10 @@ impl Grid {
         match self.plan(alloc) {
             Ok(plan) => {
                 let steps = plan.steps.as_slice();
-                push_plan(out, number, steps)?;
+                tell_plan(out, steps)?;
                 self.run_steps(alloc, first_steps(steps, most), out)
             }
-            Err(why) => Ok(push_no_plan(out, number, why)?),
+            Err(why) => Ok(tell_no_plan(out, why)?),
         }
     }
 }

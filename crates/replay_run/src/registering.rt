@@ -6,15 +6,17 @@ ghost use Rattle.call_engine.specs.Calls.{Settings};
 ghost use Rattle.call_engine.specs.Objects.{partition_object};
 ghost use Rattle.replay_run.specs.Runs.{Run, rows_known};
 ghost use Rattle.replay_run.specs.Grids.{boxed, AreListening, Holds, IsCounting};
-ghost use Rattle.replay_run.specs.WorldCalls.{texts_of, IsTo, HasRegistered, first_events};
+ghost use Rattle.replay_run.specs.LineTold.{all_told};
+ghost use Rattle.replay_run.specs.WorldCalls.{IsTo, HasRegistered, first_events};
 
 use crate::grid::Grid;
-use crate::print::push_appended;
+use crate::messages::{own_answer, tell_message};
 use client_codecs::write_void;
 use event_codecs::{
     CLUSTER_VIEW_KIND, ENTRY_LISTENER_KIND, INVALIDATION_LISTENER_KIND, Registration, write_rows,
 };
 use grid_base::{MemberId, Memory, PARTITIONS, PartitionId};
+use line_told::Told;
 use partition_table::Row;
 use std::alloc::Global;
 
@@ -38,7 +40,7 @@ impl Grid {
         conn: u32,
         member: MemberId,
         registration: Registration,
-        out: &mut Vec<u8>,
+        out: &mut Vec<Told>,
     ) -> Result<(), Memory>
         requires member { member < self.old.members }
         requires stands { (settings : Settings) × (r : Run) × (number : ℕ) × Holds (boxed form) settings self.old r
@@ -48,7 +50,7 @@ impl Grid {
             → OnOk result (HasRegistered (boxed form) settings self.new r conn member number registration out.old.items out.new.items) }
     {
         let reply = write_void(alloc, kind_of(&registration), registration.correlation())?;
-        self.tell(alloc, conn, reply, out)?;
+        self.tell(conn, reply, out)?;
         self.send_first(alloc, conn, member, &registration, out)?;
         self.listeners[usize::from(member)].add(conn, registration)?;
         Ok(())
@@ -61,19 +63,19 @@ impl Grid {
         conn: u32,
         member: MemberId,
         registration: &Registration,
-        out: &mut Vec<u8>,
+        out: &mut Vec<Told>,
     ) -> Result<(), Memory>
         requires member { member < self.now.members }
         requires holds { (settings : Settings) × (r : Run) × Holds (boxed form) settings self.now r }
         ensures { (settings : Settings) (r : Run) → Holds (boxed form) settings self.now r
-            → OnOk result (out.new.items ≡ out.old.items ++ texts_of (first_events (partition_object settings) r conn member registration.now)) }
+            → OnOk result (out.new.items ≡ out.old.items ++ all_told (first_events (partition_object settings) r conn member registration.now)) }
     {
         let Registration::Rows { correlation } = registration else {
             return Ok(());
         };
         let rows = self.rows_known(alloc, member)?;
         let event = write_rows(alloc, *correlation, rows.as_slice())?;
-        push_appended(alloc, out, self.lines, conn, event.as_slice())
+        tell_message(out, own_answer(self.lines, conn, event))
     }
 
     /// Copies of the rows that a member knows, in order of partition.

@@ -10,7 +10,8 @@ ghost use Rattle.replay_run.specs.Runs.{Run, Waiter as RunWaiter, partitions, re
 ghost use Rattle.replay_run.specs.ScriptRuns.{IsRun, IsNext};
 ghost use Rattle.replay_run.specs.Tallies.{tallied_later};
 ghost use Rattle.replay_run.specs.Grids.{boxed, AreFew, Holds, IsCounting};
-ghost use Rattle.replay_run.specs.WorldCalls.{HasCallRoom, GivesUpSo, HasRoomAt, texts_of};
+ghost use Rattle.replay_run.specs.LineTold.{all_told};
+ghost use Rattle.replay_run.specs.WorldCalls.{HasCallRoom, GivesUpSo, HasRoomAt};
 ghost use Rattle.replay_run.specs.WaiterCalls.{IsBetween, HasServed, HasTakenOut, by_turns, by_leaving, MayLeave, HasHandledCall, by_waiting};
 ghost use Rattle.wait_sets.specs.declared.turn.Turn.TheVariants.{Call as Called};
 ghost use Rattle.partition_protocol.specs.Service.{numbers_below};
@@ -18,13 +19,14 @@ ghost use Rattle.replica_node.specs.Calls.{refused_as};
 ghost use Rattle.replay_run.specs.declared.tally.Reception.TheVariants.{Refused as WasRefused};
 ghost use Rattle.replay_run.specs.declared.run_end.RunEnd.TheVariants as RunEnds;
 
-use crate::calls::{Arriving, Caller, Refusal, call, push_refusal};
+use crate::calls::{Arriving, Caller, Refusal, call, tell_refusal};
 use crate::grid::Grid;
 use crate::links::MOST_IN_FLIGHT;
 use crate::outgoing::{Reaching, append_reached, version_known};
 use crate::run_end::RunEnd;
 use crate::tally::Reception;
 use grid_base::{MemberId, Memory, PARTITIONS, PartitionRefused, Request};
+use line_told::Told;
 use partition_world::Event;
 use std::alloc::Global;
 use wait_sets::{Spot, Turn, Waiter, deadline_of, standing_of};
@@ -48,7 +50,7 @@ impl Grid {
         member: MemberId,
         request: Request,
         timeout: i64,
-        out: &mut Vec<u8>,
+        out: &mut Vec<Told>,
     ) -> Result<(), RunEnd>
         requires limits { CallFits request.call }
         requires placed { request.partition < partitions }
@@ -82,7 +84,7 @@ impl Grid {
         alloc: Global,
         at: Spot,
         own: Option<u32>,
-        out: &mut Vec<u8>,
+        out: &mut Vec<Told>,
     ) -> Result<(), RunEnd>
         requires member { at.member < self.old.members }
         requires partition { at.partition < partitions }
@@ -103,7 +105,7 @@ impl Grid {
         &mut self,
         alloc: Global,
         member: MemberId,
-        out: &mut Vec<u8>,
+        out: &mut Vec<Told>,
     ) -> Result<(), RunEnd>
         requires member { member < self.old.members }
         requires stands { (settings : Settings) × (r : Run) × IsBetween (boxed form) settings self.old r None × ((p : ℕ) → HasRoomAt r p 0) }
@@ -143,7 +145,7 @@ impl Grid {
         at: Spot,
         own: Option<u32>,
         turn: Turn,
-        out: &mut Vec<u8>,
+        out: &mut Vec<Told>,
     ) -> Result<(), RunEnd>
         requires stands { (settings : Settings) × (r : Run) × (w : RunWaiter) × MayLeave (boxed form) settings self.old r at own turn w × HasRoomAt r at.partition 0 }
         ensures ok { (settings : Settings) (r : Run) (w : RunWaiter) → MayLeave (boxed form) settings self.old r at own turn w
@@ -167,24 +169,24 @@ impl Grid {
         alloc: Global,
         request: Request,
         why: PartitionRefused,
-        out: &mut Vec<u8>,
+        out: &mut Vec<Told>,
     ) -> Result<(), Memory>
         requires refused { self.old.tally.refused < self.old.tally.arrived }
         requires memory { self.old.tally.memory < self.old.tally.arrived }
         ensures grid { self.new ≡ record self.old { tally = tallied_later WasRefused self.old.tally } }
-        ensures text { OnOk result (out.new.items ≡ out.old.items ++ texts_of (refused_at self.old.lines request (refused_as why))) }
+        ensures told { OnOk result (out.new.items ≡ out.old.items ++ all_told (refused_at self.old.lines request (refused_as why))) }
     {
         self.tally.count_later(Reception::Refused);
         let to = Caller {
             line: self.lines,
-            conn: request.id.conn,
+            id: request.id,
             correlation: request.correlation,
         };
         let refusal = Refusal {
             code: why.code(),
             version: why.version(),
         };
-        push_refusal(alloc, out, to, Some(refusal))
+        tell_refusal(alloc, out, to, Some(refusal))
     }
 
     /// The plain call of a waiter is made. A full partition takes none.
@@ -194,7 +196,7 @@ impl Grid {
         at: Spot,
         own: Option<u32>,
         request: Request,
-        out: &mut Vec<u8>,
+        out: &mut Vec<Told>,
     ) -> Result<(), RunEnd>
         requires stands { (settings : Settings) × (r : Run) × (w : RunWaiter) × MayLeave (boxed form) settings self.old r at own (Called request) w × HasRoomAt r at.partition 0 }
         ensures ok { (settings : Settings) (r : Run) (w : RunWaiter) → MayLeave (boxed form) settings self.old r at own (Called request) w

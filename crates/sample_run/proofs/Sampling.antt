@@ -14,7 +14,8 @@ use Rattle.script_lang.specs.Words.{newline, whole_lines}
 use Rattle.script_lang.specs.declared.line.Line.{Line}
 use Rattle.replay_run.specs.declared.grid.Grid.{Grid}
 use Rattle.replay_run.specs.Runs.{Run, begun}
-use Rattle.replay_run.specs.Grids.{FormOf, Holds, Stands, MayRun, HasRun, IsGivenUp, most_arriving}
+use Rattle.line_told.specs.declared.told.Ready.{Ready}
+use Rattle.replay_run.specs.Grids.{FormOf, Holds, Stands, MayRun, HasRun, HasGiven, IsGivenUp, most_arriving}
 use Rattle.sample_run.specs.SampleRuns.{sample_settings, run_of, StopsAt, StopsBehind, IsLater, IsTextOf, StandsAfter, IsNext}
 use Rattle.sample_run.proofs.SkippedRuns.{line_more, arrived_more}
 use Rattle.sample_run.proofs.RunCounts.{lines_members, lines_counted}
@@ -62,9 +63,9 @@ module _ {V : Type 0} {T : V → Type 0} {form : FormOf V T} (grid : Grid V T) (
         within = next.within;
       }
 
-  pub ran : (new : Grid V T) (line : Line) → line ≡ next.line → {written shown : List ℕ} → HasRun form sample_settings new r line written shown → StandsAfter form new (next.done ++ next.line ∷ [])
-  ran new line same {written} {shown} had =
-      let has = subst (λ l. HasRun form sample_settings new r l written shown) same had in
+  pub ran : (new : Grid V T) (line : Line) → line ≡ next.line → {earlier later : Ready} → HasGiven form sample_settings new r line earlier later → StandsAfter form new (next.done ++ next.line ∷ [])
+  ran new line same {earlier} {later} had =
+      let has = subst (λ l. HasRun form sample_settings new r l earlier.told.items later.told.items) same had.told in
       record {
         skips = next.stands.skips ++ has.skips;
         arrived = arrived_more o (begun 4 1) refl next.stands.skips next.done next.stands.arrived next.stands.stands.run next.line has.skips has.of_line;

@@ -12,6 +12,7 @@ ghost use Rattle.sample_run.specs.SampleRuns.{StopsBehind, IsTextOf, StandsAfter
 use crate::watch::LineWatch;
 use entry_processors::Processor;
 use grid_base::Memory;
+use line_told::Ready;
 use memchr::memchr;
 use replay_run::{Grid, RunEnd};
 use script_lang::{Line, LineRefused, read_line};
@@ -50,21 +51,14 @@ fn read(alloc: Global, text: &[u8], members: u8) -> Result<Line, Memory>
     }
 }
 
-/// Runs a line behind the first, and leaves its text.
-fn run_line(
-    alloc: Global,
-    number: u32,
-    text: &[u8],
-    grid: &mut Grid,
-    out: &mut Vec<u8>,
-) -> Result<(), RunEnd>
+/// Runs a line behind the first. What it tells isn't kept.
+fn run_line(alloc: Global, number: u32, text: &[u8], grid: &mut Grid) -> Result<(), RunEnd>
     requires { IsNext (boxed form) grid.old number text.now }
     ensures ok { (next : IsNext (boxed form) grid.old number text.now) → OnOk result (StandsAfter (boxed form) grid.new (next.done ++ next.line ∷ [])) }
     ensures full { (next : IsNext (boxed form) grid.old number text.now) → IsErrOf result RunEnds.InFlight → StopsBehind next.done next.line number }
 {
     let line = read(alloc, text, grid.members())?;
-    out.clear();
-    grid.run_line(alloc, number, &line, out)
+    grid.run_line(alloc, number, &line, &mut Ready::new(alloc))
 }
 
 /// Runs the lines of a text on a grid whose script begins with another line. Tells the line at which the run is given up,
@@ -78,11 +72,10 @@ pub(crate) fn run_lines<W: LineWatch>(
     requires { (lines : List Line) × IsTextOf text.now lines × (length lines < most_lines) × StandsAfter (boxed form) grid.old [] }
     ensures { (lines : List Line) → IsTextOf text.now lines → IfOk result (λ stop. EndsAs (boxed form) grid.new lines stop) }
 {
-    let mut out = Vec::new(alloc);
     let mut rest = text;
     'texts: while let Some(at) = memchr(b'\n', rest) {
         let number = grid.lines() + 1;
-        match run_line(alloc, number, &rest[..at], grid, &mut out) {
+        match run_line(alloc, number, &rest[..at], grid) {
             Ok(()) => watch.ran_lines(number),
             Err(RunEnd::InFlight) => return Ok(Some(number)),
             Err(RunEnd::Memory) => return Err(AllocError),

@@ -13,21 +13,15 @@ use Rattle.masters_run.proofs.LineParts.{next_number, few_lines, counted_amid}
 use Rattle.masters_run.proofs.Loops.{going_in, following_in, gone_in_none, gone_in_more}
 use Rattle.masters_run.proofs.grid.RuledGrid.run_detection.Goals as goal
 
-pub returns-in_err-count-clause-full : goal.returns-in_err-count-clause-full
-returns-in_err-count-clause-full g c = λ settings s stands was.
-    let why = handed_on c.from_residual.result c.in_err-count.field-0.0 InFlight c.from_residual.ensures.1 was in
-    let clash : InFlight ≡ Memory = c.in_err-count.ensures.memory InFlight (ap Err why) in
-    absurd cc
-
 pub returns-in_err-push_ok-clause-full : goal.returns-in_err-push_ok-clause-full
 returns-in_err-push_ok-clause-full g c = λ settings s stands was.
-    let clash : Memory ≡ InFlight = handed_on c.from_residual-in_err-push_ok.result Memory InFlight c.from_residual-in_err-push_ok.ensures.1 was in
+    let clash : Memory ≡ InFlight = handed_on c.from_residual.result Memory InFlight c.from_residual.ensures.1 was in
     absurd cc
 
 pub loop-partition-init : goal.loop-partition-init
 loop-partition-init g c = λ settings s stands.
     gone_in_none c.count.new.self (counted s) (Asks (Detect c.args.member)) c.push_ok.new.out.items
-    (counted_amid c.args.self.now s stands c.count.new.self c.count.ensures.masters (c.in_ok-count.ensures.amid settings s.run stands.grid))
+    (counted_amid c.args.self.now s stands c.count.new.self c.count.ensures.masters (c.count.ensures.amid settings s.run stands.grid))
 
 pub detect-requires : goal.detect-requires
 detect-requires g c =

@@ -14,13 +14,13 @@ deliver_to_members-requires-clause-may g c =
     let may = c.requires.may in
     let placed = may.read.0 in
     may_flow all may.run may.stands (few_lines all c.args.number line may may.run may.stands) (c.requires.ruled may.settings may.run may.stands) c.count.new.self
-    (counted_amid all may.run may.stands c.count.new.self c.count.ensures.masters (c.in_ok-count.ensures.amid may.settings may.run.run may.stands.grid)) c.args.partition (omega (arith, placed)) c.args.most may.read.2
+    (counted_amid all may.run may.stands c.count.new.self c.count.ensures.masters (c.count.ensures.amid may.settings may.run.run may.stands.grid)) c.args.partition (omega (arith, placed)) c.args.most may.read.2
 
 pub returns-in_err-deliveries-clause-full : goal.returns-in_err-deliveries-clause-full
 returns-in_err-deliveries-clause-full g c = λ settings s stands was.
     let all = c.args.self.now in
-    let amid = counted_amid all s stands c.count.new.self c.count.ensures.masters (c.in_ok-count.ensures.amid settings s.run stands.grid) in
-    let why = handed_on c.from_residual-in_err-deliveries.result c.in_err-deliveries.field-0.0 InFlight c.from_residual-in_err-deliveries.ensures.1 was in
+    let amid = counted_amid all s stands c.count.new.self c.count.ensures.masters (c.count.ensures.amid settings s.run stands.grid) in
+    let why = handed_on c.from_residual.result c.in_err-deliveries.field-0.0 InFlight c.from_residual.ensures.1 was in
     flow_up all s stands (c.requires.ruled settings s stands) c.args.partition c.args.most (c.in_err-deliveries.ensures.full settings (counted s) amid (ap Err why))
 
 pub returns-clause-ok : goal.returns-clause-ok
@@ -29,7 +29,7 @@ returns-clause-ok g c = λ settings s stands.
     let line = Flow c.args.partition c.args.most in
     let may = c.requires.may in
     let mid = c.count.new.self in
-    let amid = counted_amid all s stands mid c.count.ensures.masters (c.in_ok-count.ensures.amid settings s.run stands.grid) in
+    let amid = counted_amid all s stands mid c.count.ensures.masters (c.count.ensures.amid settings s.run stands.grid) in
     flow_ran all s stands (c.requires.ruled settings s stands) mid amid (few_lines all c.args.number line may s stands) c.args.partition c.args.most may.read.2 c.deliver_to_members.new.self c.in_ok-deliveries.deliveries
     c.new-text.result.items c.deliver_to_members.new.out.items (c.in_ok-deliveries.ensures.ok settings (counted s) amid)
     c.args.number c.args.out.now.items c.push_flow.new.out.items c.push_text.new.out.items (next_number all c.args.number line may s stands) c.new-text.ensures.items c.in_ok-push_flow.ensures

@@ -13,7 +13,7 @@ pub loop-partition-init : goal.loop-partition-init
 loop-partition-init g c = record {
   below = omega arith;
   flowed = λ settings s stands.
-      none_in c.count.new.self (counted s) c.args.most c.new-text.result.items (counted_amid c.args.self.now s stands c.count.new.self c.count.ensures.masters (c.in_ok-count.ensures.amid settings s.run stands.grid));
+      none_in c.count.new.self (counted s) c.args.most c.new-text.result.items (counted_amid c.args.self.now s stands c.count.new.self c.count.ensures.masters (c.count.ensures.amid settings s.run stands.grid));
 }
 
 pub deliver_to_members-requires-clause-may : goal.deliver_to_members-requires-clause-may
@@ -34,7 +34,7 @@ returns-in_err-deliveries-clause-full g c = λ settings s stands was.
     let first = c.new-text.result.items in
     let so_far = c.loop-partition.text.items in
     let did = c.loop-partition.invariant.flowed settings s stands in
-    let why = handed_on c.from_residual-in_err-deliveries.result c.in_err-deliveries.field-0.0 InFlight c.from_residual-in_err-deliveries.ensures.1 was in
+    let why = handed_on c.from_residual.result c.in_err-deliveries.field-0.0 InFlight c.from_residual.ensures.1 was in
     all_up all s stands (c.requires.ruled settings s stands) most
     (gives_up_in settings (counted s) most mid mid n c.loop-partition.deliveries first so_far did partitions (omega (arith, c.loop-partition-test.true))
     (c.in_err-deliveries.ensures.full settings (flowed_by_then settings (counted s) most mid mid n c.loop-partition.deliveries first so_far did) did.on.amid (ap Err why)))
@@ -58,7 +58,7 @@ returns-clause-ok g c = λ settings s stands.
     let all = c.args.self.now in
     let line = FlowAll c.args.most in
     let may = c.requires.may in
-    let amid = counted_amid all s stands c.count.new.self c.count.ensures.masters (c.in_ok-count.ensures.amid settings s.run stands.grid) in
+    let amid = counted_amid all s stands c.count.new.self c.count.ensures.masters (c.count.ensures.amid settings s.run stands.grid) in
     let ended : c.loop-partition.partition ≡ partitions = omega (arith, c.loop-partition-test.false, c.loop-partition.auto.partition-end) in
     all_ran all s stands (c.requires.ruled settings s stands) c.count.new.self amid (few_lines all c.args.number line may s stands) c.args.most may.read.1 c.loop-partition.self c.loop-partition.deliveries
     c.new-text.result.items c.loop-partition.text.items

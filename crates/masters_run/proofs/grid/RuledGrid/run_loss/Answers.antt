@@ -1,12 +1,10 @@
-use Rattle.std.proofs.Common.{◌≡◌, [], length, Err, refl, ap, sym, append-nil, arith}
+use Rattle.std.proofs.Common.{[], length, refl, sym, append-nil, arith}
 use Rattle.std.specs.Vec.{with_item}
 use Rattle.call_engine.specs.Objects.{partition_object}
 use Rattle.master_log.specs.Outcomes.{done_if}
 use Rattle.masters_protocol.specs.Machine.{Lose}
 use Rattle.masters_world.specs.Machine.{MasterLose}
 use Rattle.script_lang.specs.declared.line.Line.TheVariants.{MasterLose as LoseLine}
-use Rattle.replay_run.specs.declared.run_end.RunEnd.TheVariants.{InFlight, Memory}
-use Rattle.replay_run.proofs.Asking.{handed_on}
 use Rattle.masters_run.specs.Runs.{masters_at, ruled_at, counted}
 use Rattle.masters_run.proofs.AskedLines.{loss_publishes_nothing}
 use Rattle.masters_run.proofs.LineParts.{may_count, next_number, few_lines, counted_amid, may_ask}
@@ -25,16 +23,10 @@ lose-done-requires g c =
     let line = LoseLine c.args.partition c.args.from c.args.to c.args.place in
     let may = c.requires.may in
     let placed = may.read.0 in
-    let amid = counted_amid all may.run may.stands c.count.new.self c.count.ensures.masters (c.in_ok-count.ensures.amid may.settings may.run.run may.stands.grid) in
+    let amid = counted_amid all may.run may.stands c.count.new.self c.count.ensures.masters (c.count.ensures.amid may.settings may.run.run may.stands.grid) in
     let ask = may_ask all may.run may.stands (few_lines all c.args.number line may may.run may.stands) c.count.new.self (c.requires.ruled may.settings may.run may.stands) amid c.args.partition (omega (arith, placed)) in
     let are = masters_read _ c.count.new.self c.args.partition ask may.settings (counted may.run) amid c.from.result c.index_mut.result.now c.from.ensures c.index_mut.ensures.value in
     (events_of are, are.stands)
-
-pub returns-in_err-count-clause-full : goal.returns-in_err-count-clause-full
-returns-in_err-count-clause-full g c = λ settings s stands was.
-    let why = handed_on c.from_residual.result c.in_err-count.field-0.0 InFlight c.from_residual.ensures.1 was in
-    let clash : InFlight ≡ Memory = c.in_err-count.ensures.memory InFlight (ap Err why) in
-    absurd cc
 
 pub returns-clause-ok : goal.returns-clause-ok
 returns-clause-ok g c = λ settings s stands.
@@ -47,7 +39,7 @@ returns-clause-ok g c = λ settings s stands.
     let limit = few_lines all c.args.number line may s stands in
     let ruled = c.requires.ruled settings s stands in
     let mid = c.count.new.self in
-    let amid = counted_amid all s stands mid c.count.ensures.masters (c.in_ok-count.ensures.amid settings s.run stands.grid) in
+    let amid = counted_amid all s stands mid c.count.ensures.masters (c.count.ensures.amid settings s.run stands.grid) in
     let ask = may_ask all s stands limit mid ruled amid p (omega (arith, placed)) in
     let kept = c.index_mut.result.now in
     let next = c.lose-done.new.self in

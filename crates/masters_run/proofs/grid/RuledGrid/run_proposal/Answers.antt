@@ -1,8 +1,8 @@
-use Rattle.std.proofs.Common.{◌≡◌, ◌∙◌, ◌++◌, Err, ap}
+use Rattle.std.proofs.Common.{◌∙◌, ◌++◌, Err, ap}
 use Rattle.masters_world.specs.Machine.{Asks}
 use Rattle.replay_run.specs.Runs.{At}
 use Rattle.replay_run.specs.Grids.{most_arriving}
-use Rattle.replay_run.specs.declared.run_end.RunEnd.TheVariants.{InFlight, Memory}
+use Rattle.replay_run.specs.declared.run_end.RunEnd.TheVariants.{InFlight}
 use Rattle.replay_run.proofs.Asking.{handed_on}
 use Rattle.replay_run.proofs.EventLines.{of_event}
 use Rattle.masters_run.specs.Answers.{answer_of}
@@ -25,24 +25,18 @@ propose-requires g c =
     let placed = (of_event may.settings may.run.run line e by.1).within may.run.run.members most_arriving may.read in
     record {
       may = may_ask all may.run may.stands (few_lines all c.args.number line may may.run may.stands) c.count.new.self (c.requires.ruled may.settings may.run may.stands)
-          (counted_amid all may.run may.stands c.count.new.self c.count.ensures.masters (c.in_ok-count.ensures.amid may.settings may.run.run may.stands.grid)) c.args.partition placed;
+          (counted_amid all may.run may.stands c.count.new.self c.count.ensures.masters (c.count.ensures.amid may.settings may.run.run may.stands.grid)) c.args.partition placed;
       event = by.0;
       proposes = by.2;
     }
-
-pub returns-in_err-count-clause-full : goal.returns-in_err-count-clause-full
-returns-in_err-count-clause-full g c = λ settings s line stands by was.
-    let why = handed_on c.from_residual.result c.in_err-count.field-0.0 InFlight c.from_residual.ensures.1 was in
-    let clash : InFlight ≡ Memory = c.in_err-count.ensures.memory InFlight (ap Err why) in
-    absurd cc
 
 pub returns-in_err-proposal-clause-full : goal.returns-in_err-proposal-clause-full
 returns-in_err-proposal-clause-full g c = λ settings s line stands proposes was.
     let all = c.args.self.now in
     let by = proposes settings s stands in
     let e : At = record { partition = c.args.partition; event = by.0 } in
-    let amid = counted_amid all s stands c.count.new.self c.count.ensures.masters (c.in_ok-count.ensures.amid settings s.run stands.grid) in
-    let why = handed_on c.from_residual-in_err-proposal.result c.in_err-proposal.field-0.0 InFlight c.from_residual-in_err-proposal.ensures.1 was in
+    let amid = counted_amid all s stands c.count.new.self c.count.ensures.masters (c.count.ensures.amid settings s.run stands.grid) in
+    let why = handed_on c.from_residual.result c.in_err-proposal.field-0.0 InFlight c.from_residual.ensures.1 was in
     asked_up all s stands (c.requires.ruled settings s stands) line c.args.partition (Asks by.0) (event_asked settings s line e (as_event settings s line e by.1))
     (c.in_err-proposal.ensures.full settings (counted s) by.0 amid by.2 (ap Err why))
 
@@ -55,7 +49,7 @@ returns-clause-ok g c = λ settings s line stands proposes.
     let may = c.requires.may.1 in
     let old_by = c.requires.may.2 may.settings may.run may.stands in
     let placed = (of_event may.settings may.run.run old_line (record { partition = c.args.partition; event = old_by.0 }) old_by.1).within may.run.run.members most_arriving may.read in
-    let amid = counted_amid all s stands c.count.new.self c.count.ensures.masters (c.in_ok-count.ensures.amid settings s.run stands.grid) in
+    let amid = counted_amid all s stands c.count.new.self c.count.ensures.masters (c.count.ensures.amid settings s.run stands.grid) in
     asked_ran all s stands (c.requires.ruled settings s stands) line c.args.partition (Asks by.0) (event_asked settings s line e (as_event settings s line e by.1))
     (few_lines all c.args.number old_line may s stands) placed c.propose.new.self (answer_of c.in_ok-proposal.proposal) c.new-text.result.items c.propose.new.out.items (c.in_ok-proposal.ensures.ok settings (counted s) by.0 amid by.2)
     c.args.number c.args.out.now.items c.push_proposal.new.out.items c.push_text.new.out.items (next_number all c.args.number old_line may s stands) c.new-text.ensures.items c.in_ok-push_proposal.ensures

@@ -34,6 +34,6 @@ returns-clause-ok g c = λ settings r amid.
           ∙ ap (λ x. c.args.out.now.items ++ words_line r.lines (words_of (done_word e) x)) did.outcome
           ∙ ap (λ xs. c.args.out.now.items ++ words_line r.lines xs) (ap (λ b. cond b (fate_words (happens o w e).outcome) (words_of (done_word e) (happens o w e).outcome)) (sym b.if-detects.false) ∙ sym words)
     ] in
-    taken_so _ settings c.take.new.self r p e happened c.new-messages.result.items c.take.new.out.items c.new-messages.ensures.items did
+    taken_so _ settings c.print_event.new.self r p e happened c.new-messages.result.items c.print_event.new.out.items c.new-messages.ensures.items did
     c.args.out.now.items c.if-detects.out.items c.push_text.new.out.items told
     (c.in_ok-push_text.ensures ∙ ap (λ xs. c.if-detects.out.items ++ xs) c.as_slice.ensures.value)

@@ -3,7 +3,7 @@ use Rattle.script_lang.specs.Lines.{IsWithin}
 use Rattle.replay_run.specs.Grids.{most_arriving}
 use Rattle.masters_run.specs.Parts.{IsProposalOf}
 use Rattle.masters_run.proofs.LineParts.{next_number, few_lines}
-use Rattle.masters_run.proofs.Passing.{on_ok_two, passes, passed}
+use Rattle.masters_run.proofs.Passing.{passes, passed}
 use Rattle.masters_run.proofs.grid.RuledGrid.run_ruled.Goals as goal
 
 pub returns-in-Some-clause-ok : goal.returns-in-Some-clause-ok
@@ -19,5 +19,4 @@ returns-then-is_held_back-clause-ok g c = λ settings s stands.
     let nothing = subst (IsProposalOf _ all line) c.in_default.is c.in_ok-partition.ensures in
     let read = subst (λ n. IsWithin n most_arriving line) (sym may.stands.grid.holds.members ∙ stands.grid.holds.members) may.read in
     let its = passes settings s (stands.masters.ruled ruled) line (sym (c.is_held_back.ensures settings s stands) ∙ c.if-is_held_back.true) (λ e is. nothing settings s e stands is) read in
-    on_ok_two c.pass.result (λ now text. passed all c.pass.new.self s stands (few_lines all c.args.number line may s stands) line ruled its c.pass.ensures.masters now c.args.number c.args.out.now.items c.pass.new.out.items (next_number all c.args.number line may s stands) text)
-    (c.pass.ensures.amid settings s.run stands.grid) c.pass.ensures.text
+    passed all c.pass.new.self s stands (few_lines all c.args.number line may s stands) line ruled its c.pass.ensures.masters (c.pass.ensures.amid settings s.run stands.grid) c.args.number c.args.out.now.items c.pass.new.out.items (next_number all c.args.number line may s stands) c.in_ok-pass.ensures.text

@@ -19,7 +19,7 @@ pub loop-partition-init : goal.loop-partition-init
 loop-partition-init g c = record {
   on = λ settings s stands.
       gone_in_none c.count.new.self (counted s) (Told c.args.member c.args.crashed) c.new-text.result.items
-      (counted_amid c.args.self.now s stands c.count.new.self c.count.ensures.masters (c.in_ok-count.ensures.amid settings s.run stands.grid));
+      (counted_amid c.args.self.now s stands c.count.new.self c.count.ensures.masters (c.count.ensures.amid settings s.run stands.grid));
   first = λ settings s stands some. absurd (omega (arith, some));
 }
 
@@ -35,7 +35,7 @@ returns-in_err-told-clause-full g c = λ settings s stands was.
     let low = c.loop-partition-test.true in
     let a = c.loop-partition.invariant.on settings s stands in
     let l = Told c.args.member c.args.crashed in
-    let why = handed_on c.from_residual-in_err-told.result c.in_err-told.field-0.0 InFlight c.from_residual-in_err-told.ensures.1 was in
+    let why = handed_on c.from_residual.result c.in_err-told.field-0.0 InFlight c.from_residual.ensures.1 was in
     up_next c.args.self.now s stands (c.requires.ruled settings s stands) l c.loop-partition.self c.loop-partition.partition (omega (arith, low)) c.new-text.result.items c.loop-partition.text.items a
     tt (ToldLine c.args.member c.args.crashed) (λ k. refl)
     (c.in_err-told.ensures.full settings (going_in settings (counted s) l c.loop-partition.partition a.skips) a.amid (ap Err why))

@@ -15,7 +15,7 @@ use Rattle.replay_run.proofs.grid.Grid.arrive.Goals as goal
 pub returns-in_default-clause-ok : goal.returns-in_default-clause-ok
 returns-in_default-clause-ok g c = λ settings r s.
     let at_line = next_number c.args.self.now c.args.number (Arrive c.args.conn c.args.bytes.now) c.requires r s in
-    idle_line c.args.self.now c.pass.new.self r c.args.number c.args.conn c.args.bytes.now c.args.out.now.items c.pass.new.out.items s at_line c.requires.within (sym (c.open_member.ensures _ r s) ∙ c.in_default.is) c.pass.ensures.grid c.in_ok-pass.ensures.text
+    idle_line c.args.self.now c.pass.new.self r c.args.number c.args.conn c.args.bytes.now c.args.out.now.items c.pass.new.out.items s at_line c.requires.within (sym (c.open_member.ensures _ r s) ∙ c.in_default.is) c.pass.ensures.grid c.in_ok-pass.ensures.told
 
 -- A connection that is open takes its bytes.
 pub returns-in_default-2-clause-ok : goal.returns-in_default-2-clause-ok
@@ -80,12 +80,12 @@ returns-clause-ok g c = λ settings r s.
     elim c.if-is_some.branch [
       | goal.then-is_some w ↦
           bytes_line r c.args.conn its.connection its.there c.args.bytes.now c.in-Some-2.fed.items.items begun.brings c.handle_all.new.self c.count.new.out.items c.handle_all.new.out.items did its.takes
-          c.in-Some-2.fed.closed c.args.number c.args.out.now.items c.push_close.new.out.items c.forget_closed.new.listeners w.drop_conn.new.self _ w.self-is are
+          c.in-Some-2.fed.closed c.args.number c.args.out.now.items c.tell_close.new.out.items c.forget_closed.new.listeners w.drop_conn.new.self _ w.self-is are
           (all_left r c.args.conn its.connection its.there c.args.bytes.now c.in-Some-2.fed.items.items begun.brings c.handle_all.new.self c.count.new.out.items c.handle_all.new.out.items did c.in-Some-2.fed.closed begun.closed w.drop_conn.new.self (sym c.is_some.ensures ∙ w.if-is_some.true) (w.drop_conn.ensures ∙ ap (λ n. map (dropped n) c.handle_all.new.self.waiters) (sym its.numbered)))
-          s.small s.few s.bounded s.reached c.requires.read.2 c.in_ok-count.ensures.text at_line c.requires.within begun.closed c.in_ok-push_close.ensures
+          s.small s.few s.bounded s.reached c.requires.read.2 c.in_ok-count.ensures.told at_line c.requires.within begun.closed c.in_ok-tell_close.ensures
       | goal.else-is_some w ↦
           bytes_line r c.args.conn its.connection its.there c.args.bytes.now c.in-Some-2.fed.items.items begun.brings c.handle_all.new.self c.count.new.out.items c.handle_all.new.out.items did its.takes
-          c.in-Some-2.fed.closed c.args.number c.args.out.now.items c.push_close.new.out.items c.forget_closed.new.listeners c.handle_all.new.self.waiters _ w.self-is are
+          c.in-Some-2.fed.closed c.args.number c.args.out.now.items c.tell_close.new.out.items c.forget_closed.new.listeners c.handle_all.new.self.waiters _ w.self-is are
           (none_left r c.args.conn its.connection its.there c.args.bytes.now c.in-Some-2.fed.items.items begun.brings c.handle_all.new.self c.count.new.out.items c.handle_all.new.out.items did c.in-Some-2.fed.closed begun.closed c.handle_all.new.self.waiters (sym c.is_some.ensures ∙ w.if-is_some.false) refl)
-          s.small s.few s.bounded s.reached c.requires.read.2 c.in_ok-count.ensures.text at_line c.requires.within begun.closed c.in_ok-push_close.ensures
+          s.small s.few s.bounded s.reached c.requires.read.2 c.in_ok-count.ensures.told at_line c.requires.within begun.closed c.in_ok-tell_close.ensures
     ]

@@ -8,12 +8,14 @@ use Rattle.call_engine.specs.Calls.{Settings}
 use Rattle.call_engine.specs.Objects.{partition_object}
 use Rattle.replay_run.specs.Dumps.{dumped_text}
 use Rattle.replay_run.specs.Runs.{next_line, events_at, world_at, partitions}
-use Rattle.replay_run.specs.Printing.{dump_text}
+use Rattle.replay_run.specs.LineTold.{came_to}
+use Rattle.line_told.specs.declared.told.LineOutcome.TheVariants.{Dumped}
+use Rattle.partition_protocol.specs.Node.{Pair}
 use Rattle.replay_run.specs.Shelves.{grid_meaning}
 use Rattle.replay_run.specs.Grids.{StandsForEvents}
 use Rattle.replay_run.proofs.Asking.{world_within, world_is, told_of}
 use Rattle.replay_run.proofs.WorldRuns.{run_is}
-use Rattle.replay_run.proofs.GridLines.{counted, counted_stands, counted_line, next_number, both_texts}
+use Rattle.replay_run.proofs.GridLines.{counted, counted_stands, counted_line, next_number}
 use Rattle.replay_run.proofs.grid.Grid.dump.Goals as goal
 use Rattle.call_engine.specs.Env.{settings_of}
 
@@ -49,12 +51,11 @@ returns g c = λ settings r s.
     let shown : c.contents-pair.result.shelf.now ≡ contents_at o (world_at o (next_line r) p) member =
     subst (λ (x : Settings). StandsForEvents x world events → c.contents-pair.result.shelf.now ≡ contents_at (partition_object x) (run_of (grid_meaning x) world events) member) s.holds.goes_by (c.contents-pair.ensures.state (settings_of _ grid.env) events) is.stands
     ∙ ap (λ w. contents_at o w member) (run_is world (next_line r) p is) in
-    let outcome = dump_text (r.lines + 1) (pair_at (world_at o (next_line r) p) member) in
     let dumped = dumped_text (r.lines + 1) (contents_at o (world_at o (next_line r) p) member) in
     on_ok_weaker c.push_dumped.result
-    (λ e. counted_line grid (counted grid number) r number (Dump p member) s at_line c.requires.within refl refl c.args.out.now.items c.push_dumped.new.out.items refl refl refl
-    (both_texts c.args.out.now.items outcome dumped c.push_dump.new.out.items c.push_dumped.new.out.items
-    (c.in_ok-push_dump.ensures ∙ (λ i. c.args.out.now.items ++ dump_text (at_line i) (pair i)))
-    (e ∙ (λ i. c.push_dump.new.out.items ++ dumped_text (at_line i) (shown i)))
-    ∙ ap (λ xs. c.args.out.now.items ++ xs) (sym (append-nil (outcome ++ dumped ++ []) ∙ append-nil (outcome ++ dumped)))))
+    (λ e. record {
+      told = counted_line grid (counted grid number) r number (Dump p member) s at_line c.requires.within refl refl c.args.out.now.told.items c.tell_outcome.new.out.items refl refl refl
+          (c.in_ok-tell_outcome.ensures ∙ ap (λ (x : Pair). c.args.out.now.told.items ++ came_to (Dumped x)) pair);
+      printed = e ∙ (λ i. c.args.out.now.printed.items ++ dumped_text (at_line i) (shown i)) ∙ ap (λ xs. c.args.out.now.printed.items ++ xs) (sym (append-nil (dumped ++ []) ∙ append-nil dumped));
+    })
     c.push_dumped.ensures

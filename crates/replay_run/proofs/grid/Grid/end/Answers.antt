@@ -1,11 +1,8 @@
-use Rattle.std.proofs.Common.{[], ◌+◌, ◌∙◌, ◌++◌, append-nil, ap, sym, refl}
-use Rattle.std.specs.List.{flat_map}
+use Rattle.std.proofs.Common.{refl}
 use Rattle.std.proofs.lemmas.Result.{on_ok_weaker}
 use Rattle.script_lang.specs.declared.line.Line.TheVariants.{End}
 use Rattle.replay_run.specs.Runs.{next_line}
-use Rattle.call_engine.specs.Objects.{partition_object}
-use Rattle.replay_run.specs.Printing.{ok_text, entry_text, all_entries}
-use Rattle.replay_run.proofs.GridLines.{stands_as, counted_stands, counted_line, next_number, both_texts}
+use Rattle.replay_run.proofs.GridLines.{stands_as, counted_stands, counted_line, next_number}
 use Rattle.replay_run.proofs.grid.Grid.end.Goals as goal
 
 pub push_histories-requires : goal.push_histories-requires
@@ -19,7 +16,8 @@ returns g c = λ settings r s.
     let at_line = next_number c.args.self.now c.args.number End c.requires r s in
     let stands = stands_as c.count.ensures.grid (counted_stands c.args.self.now r c.args.number s at_line c.requires.within) in
     on_ok_weaker c.push_histories.result
-    (λ e. counted_line c.args.self.now c.count.new.self r c.args.number End s at_line c.requires.within refl c.count.ensures.grid c.args.out.now.items c.push_histories.new.out.items refl refl refl
-    (both_texts c.args.out.now.items (ok_text (r.lines + 1) ++ [] ++ []) (flat_map (entry_text (next_line r).lines) (all_entries (partition_object settings) (next_line r))) c.count.new.out.items c.push_histories.new.out.items
-    (c.in_ok-count.ensures.text ∙ ap (λ n. c.args.out.now.items ++ ok_text n) at_line ∙ ap (λ xs. c.args.out.now.items ++ xs) (sym (append-nil (ok_text (r.lines + 1) ++ []) ∙ append-nil (ok_text (r.lines + 1))))) e))
+    (λ e. record {
+      told = counted_line c.args.self.now c.count.new.self r c.args.number End s at_line c.requires.within refl c.count.ensures.grid c.args.out.now.told.items c.count.new.out.items refl refl refl c.in_ok-count.ensures.told;
+      printed = e;
+    })
     (c.push_histories.ensures settings (next_line r) stands)

@@ -1,8 +1,9 @@
-use Rattle.std.proofs.Common.{◌∙◌, ◌++◌, Err, sym, ap, arith, refl}
+use Rattle.std.proofs.Common.{Err, ap, arith, refl}
 use Rattle.script_lang.specs.declared.line.Line.TheVariants.{Flow}
 use Rattle.call_engine.specs.Objects.{partition_object}
 use Rattle.replay_run.specs.Runs.{next_line, flowed}
-use Rattle.replay_run.specs.Printing.{flow_text}
+use Rattle.replay_run.specs.LineTold.{came_to}
+use Rattle.line_told.specs.declared.told.LineOutcome.TheVariants.{Flowed}
 use Rattle.replay_run.specs.declared.run_end.RunEnd.TheVariants.{InFlight}
 use Rattle.replay_run.proofs.Asking.{handed_on}
 use Rattle.replay_run.proofs.Bounds.{flow_few}
@@ -41,8 +42,8 @@ returns-clause-ok g c = λ settings r s.
     let kept = flowed_kept o skips (next_line r) p most in
     events_line grid c.deliver_first.new.self r skips next (Flow p most) s (few_lines grid number (Flow p most) c.requires r s) refl did.on.own kept (flow_few o skips r s.few p most c.requires.read.2) (flow_prints settings r skips next p most)
     c.new-messages.result.items c.deliver_first.new.out.items did.on.on
-    (flow_text number c.in_ok-deliveries.deliveries) c.args.out.now.items c.push_flow.new.out.items c.push_text.new.out.items
+    (came_to (Flowed c.in_ok-deliveries.deliveries)) c.args.out.now.items c.tell_outcome.new.out.items c.append.new.self.items
     c.new-messages.ensures.items
-    (flow_outcome settings r next number c.in_ok-deliveries.deliveries (at_line ∙ sym kept.lines) did.deliveries)
-    c.in_ok-push_flow.ensures
-    (c.in_ok-push_text.ensures ∙ ap (λ xs. c.push_flow.new.out.items ++ xs) c.as_slice.ensures.value)
+    (flow_outcome settings r next c.in_ok-deliveries.deliveries did.deliveries)
+    c.in_ok-tell_outcome.ensures
+    c.in_ok-append.ensures.items

@@ -119,4 +119,4 @@ returns-clause-ok g c = λ settings r w may.
     })
     c.count_later.ensures
     (has_given_out settings called c.append_reached.new.world at.member c.in_ok-append_reached.ensures.world)
-    did.1 (λ es. c.in_ok-append_reached.ensures.text settings es r all of_run) did.2 goes
+    did.1 (λ es. c.in_ok-append_reached.ensures.told settings es r all of_run) did.2 goes

@@ -23,7 +23,7 @@ refuse_waiter-requires-clause-memory g c = (refusal_few c.args.self.now c.requir
 
 pub returns-in_ok-refuse_waiter-in-Refusal-clause-ok : goal.returns-in_ok-refuse_waiter-in-Refusal-clause-ok
 returns-in_ok-refuse_waiter-in-Refusal-clause-ok g c = λ settings r w may.
-    refusal_served c.args.self.now r c.args.own c.args.at c.in-Refusal.request w c.in-Refusal.why (may_as c.in-Refusal.is may) c.refuse_waiter.new.self c.args.out.now.items c.refuse_waiter.new.out.items c.refuse_waiter.ensures.grid c.in_ok-refuse_waiter-in-Refusal.ensures.text
+    refusal_served c.args.self.now r c.args.own c.args.at c.in-Refusal.request w c.in-Refusal.why (may_as c.in-Refusal.is may) c.refuse_waiter.new.self c.args.out.now.items c.refuse_waiter.new.out.items c.refuse_waiter.ensures.grid c.in_ok-refuse_waiter-in-Refusal.ensures.told
 
 -- It leaves without an answer.
 pub returns-in-Silence-clause-ok : goal.returns-in-Silence-clause-ok

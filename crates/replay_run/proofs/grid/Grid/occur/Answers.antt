@@ -1,4 +1,4 @@
-use Rattle.std.proofs.Common.{◌≡◌, ◌∙◌, ℕ, false, List, [], ◌∷◌, ◌++◌, None, length, if◌then◌else◌, slice_get, set, refl, ap, sym, arith, Vec, Global}
+use Rattle.std.proofs.Common.{◌≡◌, ◌∙◌, false, List, [], ◌∷◌, ◌++◌, None, length, if◌then◌else◌, slice_get, set, refl, ap, sym, arith, Vec, Global}
 use Rattle.call_engine.specs.Objects.{partition_object}
 use Rattle.partition_protocol.specs.Events.{Reopen as Reopens}
 use Rattle.partition_world.specs.Events.{event_of, happened_of}
@@ -13,6 +13,7 @@ use Rattle.replay_run.proofs.GridEvents.{HasReleased, event_room, room_in, comes
 use Rattle.replay_run.proofs.grid.Grid.occur.Goals as goal
 use Rattle.replay_run.proofs.grid.Grid.occur.Goals.{in-Some+in_ok-append_reached, in_default-reaching, in-Reopen, in_default}
 use Rattle.call_engine.specs.Env.{settings_of}
+use Rattle.line_told.specs.declared.told.Told.{Told}
 
 pub index_mut-world-requires : goal.index_mut-world-requires
 index_mut-world-requires g c =
@@ -71,12 +72,12 @@ returns-clause-ok g c = λ settings r amid.
           (let where_it = reaches_some settings r p taker w.in-Some.at (sym w.in-Some.is ∙ reaches) in
           let of_run : AreOfRun grid.connections w.as_slice.result.now w.in-Some.at r (listening r None w.in-Some.at.member) =
           record { line = sym (ap (λ (x : Reaching). x.line) where_it.1); connections = amid.holds.table.connections; stand = λ here there. amid.listeners.each w.in-Some.at.member here (ap (λ (ls : List Listeners). slice_get ls w.in-Some.at.member) (sym w.as_slice.ensures.value) ∙ there) } in
-          released_some settings grid c.match-reaching.self r p event called taker start c.match-reaching.out.items _ _ w.append_reached.new.world w.in-Some.at w.append_reached.new.out.items where_it amid.holds.lines w.self-is (ap (λ (v : Vec ℕ Global). v.items) w.out-is)
+          released_some settings grid c.match-reaching.self r p event called taker start c.match-reaching.out.items _ _ w.append_reached.new.world w.in-Some.at w.append_reached.new.out.items where_it amid.holds.lines w.self-is (ap (λ (v : Vec Told Global). v.items) w.out-is)
           (has_given_out settings called w.append_reached.new.world w.in-Some.at.member w.in_ok-append_reached.ensures.world)
           (w.in_ok-append_reached.ensures.table r amid.holds.table.connections)
           (λ i. set grid.worlds.items (c.from.ensures i) w.append_reached.new.world)
-          (w.in_ok-append_reached.ensures.text settings (events ++ event ∷ []) r (listening r None w.in-Some.at.member) of_run did.stands))
-      | in_default-reaching w ↦ released_none settings grid c.match-reaching.self r p event called taker start c.match-reaching.out.items _ (reaches_none settings r p taker (sym w.in_default-reaching.is ∙ reaches)) w.self-is (ap (λ (v : Vec ℕ Global). v.items) w.out-is)
+          (w.in_ok-append_reached.ensures.told settings (events ++ event ∷ []) r (listening r None w.in-Some.at.member) of_run did.stands))
+      | in_default-reaching w ↦ released_none settings grid c.match-reaching.self r p event called taker start c.match-reaching.out.items _ (reaches_none settings r p taker (sym w.in_default-reaching.is ∙ reaches)) w.self-is (ap (λ (v : Vec Told Global). v.items) w.out-is)
           (λ i. set grid.worlds.items (c.from.ensures i) called)
     ] in
     let noted : List Reopened = if c.match-matches.matches then reopening_by p c.match-reaching.self.lines Reopens (happened_of happened) else [] in

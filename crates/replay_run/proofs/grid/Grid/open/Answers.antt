@@ -28,7 +28,7 @@ returns-then-is_some g c = λ settings r s.
     ] in
     on_ok_weaker c.pass.result
     (λ e. unopened grid c.pass.new.self r c.args.number conn member c.args.out.now.items c.pass.new.out.items s at_line c.requires.within cannot c.pass.ensures.grid e)
-    c.pass.ensures.text
+    c.pass.ensures.told
 
 pub returns : goal.returns
 returns g c = λ settings r s.
@@ -44,4 +44,4 @@ returns g c = λ settings r s.
     on_ok_weaker c.count.result
     (λ e. opened_line grid c.count.new.self r c.args.number conn member c.args.out.now.items c.count.new.out.items s at_line c.requires.within within there closed can
     (c.count.ensures.grid ∙ ap (λ (t : Table). with_table grid c.args.number t) c.open.ensures) e)
-    c.count.ensures.text
+    c.count.ensures.told

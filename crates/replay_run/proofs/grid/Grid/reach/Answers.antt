@@ -99,5 +99,5 @@ returns-clause-ok g c = λ settings r run h next are count goes.
     refl
     (has_given_out settings called c.append_reached.new.world member c.in_ok-append_reached.ensures.world)
     did.2
-    (call_said settings called r (Some conn) (arrival_at r member c.args.request) line known (sym h.lines) c.args.out.now.items did.0 c.call.new.out.items c.append_reached.new.out.items did.1 (λ es. c.in_ok-append_reached.ensures.text settings es r all of_run))
+    (call_said settings called r (Some conn) (arrival_at r member c.args.request) line known (sym h.lines) c.args.out.now.items did.0 c.call.new.out.items c.append_reached.new.out.items did.1 (λ es. c.in_ok-append_reached.ensures.told settings es r all of_run))
     goes

@@ -5,7 +5,7 @@ use Rattle.script_lang.specs.declared.line.Line.TheVariants.{Rebalance}
 use Rattle.call_engine.specs.Objects.{partition_object}
 use Rattle.replay_run.specs.Runs.{next_line}
 use Rattle.replay_run.specs.Rebalancing.{plan_in, first_steps, stepped_all, most_line_events}
-use Rattle.replay_run.specs.RebalancingTexts.{steps_text}
+use Rattle.replay_run.specs.LineTold.{steps_told}
 use Rattle.replay_run.specs.WorldCalls.{GivesUpSo, MayStep}
 use Rattle.replay_run.proofs.GridLines.{next_number, few_lines}
 use Rattle.replay_run.proofs.EventLines.{counted_amid, stands_room}
@@ -30,8 +30,8 @@ run_steps-requires g c =
     let room = stands_room grid r s (few_lines grid c.args.number (Rebalance most) may r s) in
     (may.settings, next_line r, amid, subst (MayStep (next_line r) 0) (ap (first_steps most) planned ∙ sym steps) (may_step (next_line r) 0 _ (λ p. room p most_line_events (omega arith)) (steps_are_rising o (next_line r) most)))
 
-pub returns-in_ok-push_plan-in-Ok-clause-ok : goal.returns-in_ok-push_plan-in-Ok-clause-ok
-returns-in_ok-push_plan-in-Ok-clause-ok g c = λ settings r s.
+pub returns-in_ok-tell_plan-in-Ok-clause-ok : goal.returns-in_ok-tell_plan-in-Ok-clause-ok
+returns-in_ok-tell_plan-in-Ok-clause-ok g c = λ settings r s.
     let o = partition_object settings in
     let grid = c.args.self.now in
     let number = c.args.number in
@@ -42,15 +42,15 @@ returns-in_ok-push_plan-in-Ok-clause-ok g c = λ settings r s.
     let amid = counted_amid grid r number s at_line in
     let planned = gives_plan c.plan.result plan (plan_in o (next_line r)) c.in-Ok.is (c.plan.ensures settings (next_line r) amid) in
     let steps = c.first_steps.ensures ∙ ap (take most) c.as_slice-steps.ensures in
-    let printed = c.in_ok-push_plan-in-Ok.ensures ∙ ap (λ ss. start ++ steps_text number ss) c.as_slice-steps.ensures in
+    let told = c.in_ok-tell_plan-in-Ok.ensures ∙ ap (λ ss. start ++ steps_told ss) c.as_slice-steps.ensures in
     on_ok_weaker c.run_steps.result
     (λ ran.
     let did = stepped_as steps ran in
-    planned_line grid c.run_steps.new.self r most s (Balanced plan) planned number start _ c.run_steps.new.out.items did at_line (few_lines grid number (Rebalance most) c.requires r s) printed)
+    planned_line grid c.run_steps.new.self r most s (Balanced plan) planned start _ c.run_steps.new.out.items did (few_lines grid number (Rebalance most) c.requires r s) told)
     (c.run_steps.ensures.ok settings (next_line r) amid)
 
-pub returns-in_ok-push_plan-in-Ok-clause-full : goal.returns-in_ok-push_plan-in-Ok-clause-full
-returns-in_ok-push_plan-in-Ok-clause-full g c = λ settings r s was.
+pub returns-in_ok-tell_plan-in-Ok-clause-full : goal.returns-in_ok-tell_plan-in-Ok-clause-full
+returns-in_ok-tell_plan-in-Ok-clause-full g c = λ settings r s was.
     let o = partition_object settings in
     let grid = c.args.self.now in
     let most = c.args.most in
@@ -60,13 +60,13 @@ returns-in_ok-push_plan-in-Ok-clause-full g c = λ settings r s was.
     let steps = c.first_steps.ensures ∙ ap (take most) c.as_slice-steps.ensures in
     planned_full grid c.run_steps.new.self r most s (Balanced plan) planned (subst (λ ss. GivesUpSo (next_line r) (λ skips. stepped_all o skips (next_line r) ss)) steps (c.run_steps.ensures.full settings (next_line r) amid was))
 
-pub returns-in_ok-push_no_plan-in-Err-clause-ok : goal.returns-in_ok-push_no_plan-in-Err-clause-ok
-returns-in_ok-push_no_plan-in-Err-clause-ok g c = λ settings r s.
+pub returns-in_ok-tell_no_plan-in-Err-clause-ok : goal.returns-in_ok-tell_no_plan-in-Err-clause-ok
+returns-in_ok-tell_no_plan-in-Err-clause-ok g c = λ settings r s.
     let o = partition_object settings in
     let grid = c.args.self.now in
     let number = c.args.number in
     let at_line = next_number grid number (Rebalance c.args.most) c.requires r s in
     let amid = counted_amid grid r number s at_line in
     let planned = plan_in o (next_line r) in
-    let none = c.in_ok-push_no_plan-in-Err.ensures planned (subst (λ x. Gives x planned) c.in-Err.is (c.plan.ensures settings (next_line r) amid)) in
-    refused_line grid r c.args.most s planned refl (none.0 c.args.most) amid number c.args.out.now.items c.push_no_plan.new.out.items at_line (few_lines grid number (Rebalance c.args.most) c.requires r s) none.1
+    let none = c.in_ok-tell_no_plan-in-Err.ensures planned (subst (λ x. Gives x planned) c.in-Err.is (c.plan.ensures settings (next_line r) amid)) in
+    refused_line grid r c.args.most s planned refl (none.0 c.args.most) amid c.args.out.now.items c.tell_no_plan.new.out.items (few_lines grid number (Rebalance c.args.most) c.requires r s) none.1

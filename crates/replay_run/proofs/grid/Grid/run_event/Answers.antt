@@ -1,8 +1,9 @@
-use Rattle.std.proofs.Common.{◌∙◌, ◌++◌, Err, Some, sym, ap, arith}
-use Rattle.partition_world.specs.Events.{event_of, happened_of}
+use Rattle.std.proofs.Common.{◌∙◌, Err, Some, ap, arith}
+use Rattle.partition_world.specs.Events.{event_of}
 use Rattle.call_engine.specs.Objects.{partition_object}
 use Rattle.replay_run.specs.Runs.{At, next_line, takes}
-use Rattle.replay_run.specs.Printing.{words_line, words_of}
+use Rattle.replay_run.specs.LineTold.{came_to}
+use Rattle.line_told.specs.Happenings.{event_told}
 use Rattle.replay_run.specs.Grids.{most_arriving}
 use Rattle.replay_run.specs.declared.run_end.RunEnd.TheVariants.{InFlight}
 use Rattle.replay_run.proofs.Asking.{handed_on}
@@ -51,8 +52,8 @@ returns-clause-ok g c = λ settings r line s is.
     let kept = takes_kept o skips (next_line r) p event in
     events_line grid c.take.new.self r skips next line s (few_lines grid number c.requires.0 c.requires.1 r s) (its.after skips) taken.on.own kept (event_line_few o skips r s.few (Some e)) (its.prints skips next)
     c.new-messages.result.items c.take.new.out.items taken.on.on
-    (words_line number (words_of c.done_word-done.result.now (happened_of c.in_ok-happened.happened))) c.args.out.now.items c.push_happened.new.out.items c.push_text.new.out.items
+    (came_to c.of_event.result) c.args.out.now.items c.tell_outcome.new.out.items c.append.new.self.items
     c.new-messages.ensures.items
-    ((λ i. words_line ((at_line ∙ sym kept.lines) i) (words_of (c.done_word-done.ensures i) (taken.outcome i))) ∙ its.outcome next)
-    c.in_ok-push_happened.ensures
-    (c.in_ok-push_text.ensures ∙ ap (λ xs. c.push_happened.new.out.items ++ xs) c.as_slice.ensures.value)
+    (ap came_to c.of_event.ensures ∙ (λ i. came_to (event_told (c.is_advance-advances.ensures i) (taken.outcome i))) ∙ its.tells next)
+    c.in_ok-tell_outcome.ensures
+    c.in_ok-append.ensures.items

@@ -1,9 +1,9 @@
-use Rattle.std.proofs.Common.{◌∙◌, ◌++◌, Err, sym, ap, arith}
+use Rattle.std.proofs.Common.{◌∙◌, Err, ap, arith}
 use Rattle.partition_protocol.specs.Service.{numbers_below}
-use Rattle.partition_world.specs.Events.{happened_of}
 use Rattle.call_engine.specs.Objects.{partition_object}
 use Rattle.replay_run.specs.Runs.{next_line, takes_in, partitions}
-use Rattle.replay_run.specs.Printing.{words_line, fate_words}
+use Rattle.replay_run.specs.LineTold.{came_to}
+use Rattle.line_told.specs.Happenings.{fate_told}
 use Rattle.replay_run.specs.WorldCalls.{event_in_all, line_of_fate}
 use Rattle.replay_run.specs.declared.run_end.RunEnd.TheVariants.{InFlight}
 use Rattle.replay_run.proofs.Asking.{handed_on}
@@ -42,8 +42,8 @@ returns-clause-ok g c = λ settings r s.
     let kept = takes_in_kept o skips (next_line r) event (numbers_below partitions) in
     events_line grid c.take_in_all.new.self r skips next line s (few_lines grid number line c.requires r s) (its.after skips) did.on.own kept (in_all_few o skips r s.few event) (its.prints skips next)
     c.new-messages.result.items c.take_in_all.new.out.items did.on.on
-    (words_line number (fate_words (happened_of c.in_ok-first.first))) c.args.out.now.items c.push_fate.new.out.items c.push_text.new.out.items
+    (came_to c.of_fate.result) c.args.out.now.items c.tell_outcome.new.out.items c.append.new.self.items
     c.new-messages.ensures.items
-    ((λ i. words_line ((at_line ∙ sym kept.lines) i) (fate_words (did.outcome i))) ∙ its.outcome next)
-    c.in_ok-push_fate.ensures
-    (c.in_ok-push_text.ensures ∙ ap (λ xs. c.push_fate.new.out.items ++ xs) c.as_slice.ensures.value)
+    (ap came_to c.of_fate.ensures ∙ (λ i. came_to (fate_told (did.outcome i))) ∙ its.tells next)
+    c.in_ok-tell_outcome.ensures
+    c.in_ok-append.ensures.items

@@ -1,9 +1,8 @@
-use Rattle.std.proofs.Common.{◌∙◌, Err, ap}
+use Rattle.std.proofs.Common.{Err, ap}
 use Rattle.call_engine.specs.Objects.{partition_object}
 use Rattle.replay_run.specs.Rebalancing.{stepped}
 use Rattle.replay_run.specs.declared.run_end.RunEnd.TheVariants.{InFlight}
 use Rattle.replay_run.proofs.Asking.{handed_on}
-use Rattle.replay_run.proofs.Rebalanced.{stepped_kept}
 use Rattle.replay_run.proofs.RebalanceLine.{one_stepped}
 use Rattle.replay_run.proofs.grid.Grid.run_told.Goals as goal
 
@@ -24,5 +23,5 @@ returns-clause-ok g c = λ settings r amid.
     let o = partition_object settings in
     let step = c.args.step in
     let on = c.in_ok-run_step.ensures.ok settings r amid in
-    one_stepped r c.run_step.new.self step c.args.out.now.items c.run_step.new.out.items c.push_end.new.out.items c.run_step.new.self.lines c.is_moving-moving.result
-    on (on.on.amid.holds.lines ∙ (stepped_kept o on.skips r step).lines) (c.is_moving-moving.ensures settings (stepped o on.skips r step) on.on.amid) c.in_ok-push_end.ensures
+    one_stepped r c.run_step.new.self step c.args.out.now.items c.run_step.new.out.items c.tell_ended.new.out.items c.is_moving-moving.result
+    on (c.is_moving-moving.ensures settings (stepped o on.skips r step) on.on.amid) c.in_ok-tell_ended.ensures

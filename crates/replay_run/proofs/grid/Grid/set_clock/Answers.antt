@@ -40,7 +40,7 @@ returns-clause-ok g c = λ settings r s.
     let clock = has_clock grid c.count.new.self c.args.number c.args.member c.args.moment _ c.count.ensures.grid (λ i. set grid.moments.items (c.from.ensures i) c.args.moment) in
     on_ok_weaker c.make_turns_of.result
     (clock_line grid c.count.new.self r c.args.number c.args.member c.args.moment s at_line c.requires.within clock
-    c.make_turns_of.new.self c.args.out.now.items c.count.new.out.items c.make_turns_of.new.out.items c.in_ok-count.ensures.text)
+    c.make_turns_of.new.self c.args.out.now.items c.count.new.out.items c.make_turns_of.new.out.items c.in_ok-count.ensures.told)
     (c.make_turns_of.ensures.ok settings (clock_set r c.args.member c.args.moment) (clocked_between grid c.count.new.self r c.args.number c.args.member c.args.moment s at_line c.requires.within clock))
 
 pub returns-clause-full : goal.returns-clause-full

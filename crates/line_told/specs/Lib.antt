@@ -1,0 +1,4 @@
+pub mod Words
+pub mod Outcomes
+pub mod Printing
+pub mod Happenings
