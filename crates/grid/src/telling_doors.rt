@@ -65,8 +65,12 @@ impl<D: Doors, R: Eprint + Send> Doors for TellingDoors<D, R> {
         opened
     }
 
-    fn accept(&mut self) -> Result<Accepted<D::From, D::To>, DoorFault> {
-        self.doors.accept()
+    fn accept(&mut self, key: usize) -> Result<Accepted<D::From, D::To>, DoorFault> {
+        self.doors.accept(key)
+    }
+
+    fn next_ready(&mut self) -> Option<usize> {
+        self.doors.next_ready()
     }
 
     fn wait(&mut self, millis: u32) -> Result<(), DoorFault> {

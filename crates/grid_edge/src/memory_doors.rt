@@ -33,6 +33,9 @@ pub struct MemoryDoors<F, T> {
     accepted: GhostList<(MemberId, F, T)>,
     returned: Vec<Returned<F, T>>,
     looks: u64,
+    /// One more than the largest key, and how many keys were told since the last wait.
+    keys: usize,
+    told: usize,
 }
 
 impl<F, T> Model for MemoryDoors<F, T> {
@@ -65,6 +68,8 @@ impl<F, T> MemoryDoors<F, T> {
             accepted: GhostList::new(),
             returned,
             looks: 0,
+            keys: 0,
+            told: 0,
         })
     }
 
@@ -113,7 +118,7 @@ impl<F: ReadySource + Send + Drop, T: ReadySink + Send + Drop> Doors for MemoryD
         Ok(())
     }
 
-    fn accept(&mut self) -> Result<Accepted<F, T>, DoorFault>
+    fn accept(&mut self, key: usize) -> Result<Accepted<F, T>, DoorFault>
         ensures step { HasFailed self.old self.new result ⊎ HasAccepted self.old self.new result }
         ensures looks { HasLooked self.old.looks self.new.looks result }
         ensures cause { HasCause self.old.plan.faults self.new.plan.faults result }
@@ -136,6 +141,7 @@ impl<F: ReadySource + Send + Drop, T: ReadySink + Send + Drop> Doors for MemoryD
         }
         self.plan.count_call();
         self.accepted = self.accepted.with(&visit);
+        self.keys = self.keys.max(key.saturating_add(1));
         let (member, from, to) = visit;
         Ok(Accepted::Come { member, from, to })
     }
@@ -145,8 +151,21 @@ impl<F: ReadySource + Send + Drop, T: ReadySink + Send + Drop> Doors for MemoryD
         ensures ok { IsOk result }
         ensures same { self.new ≡ self.old }
     {
+        self.told = 0;
         thread::yield_now();
         Ok(())
+    }
+
+    /// Each key up to the largest one, once for each wait: any connection may be ready.
+    fn next_ready(&mut self) -> Option<usize>
+        ensures same { self.new ≡ self.old }
+    {
+        if self.told >= self.keys {
+            return None;
+        }
+        let key = self.told;
+        self.told += 1;
+        Some(key)
     }
 
     fn waker(&mut self) -> Result<SilentWaker, DoorFault>
