@@ -217,5 +217,24 @@ printf -v long '%0100000d' 0
 compare 'long words in little memory, told' yes \
     "$(want_of_memory "$long" "$long" "$long" "$long" "$long" "$long" "$long" "$long" "$long" "$long")"
 
+# Installed: the program, its manual page, a unit, and the client for Python.
+GRID=$grid ./install "$room/prefix" >"$room/installed"
+compare 'an installation, exit status' 0 $?
+compare 'an installation, what it tells' 4 "$(grep -c "^$room/prefix/" "$room/installed")"
+compare 'the installed program' 'grid 0.1.0' "$("$room/prefix/bin/grid" --version)"
+manual=$room/prefix/share/man/man1/grid.1
+compare 'the manual page, its version' '.TH GRID 1 "" "grid 0.1.0"' "$(head -n 1 "$manual")"
+for option in members backups capacity port stay; do
+    compare "the manual page, --$option" 1 "$(grep -c "^[.]B --$option" <(sed 's/\\-/-/g' "$manual"))"
+done
+compare 'the installed unit' "ExecStart=$room/prefix/bin/grid" \
+    "$(grep -o '^ExecStart=[^ ]*' "$room/prefix/lib/systemd/system/grid.service")"
+compare 'the installed client' grid_client \
+    "$(PYTHONPATH=$(dirname "$(tail -n 1 "$room/installed")") python3 -c 'import grid_client; print(grid_client.GridClient.__module__.split(".")[0])')"
+GRID=$room/none ./install "$room/prefix" 2>"$room/err"
+compare 'an installation without a program' 1 $?
+./install 2>"$room/err"
+compare 'an installation without a place' 2 $?
+
 echo "$passed passed, $failed failed"
 [ "$failed" = 0 ]
