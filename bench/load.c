@@ -1,12 +1,19 @@
-// Calls on a server in a closed loop, from one thread: each connection sends a call, waits for its answer, and sends the
-// next. Half are puts and half are gets, of 64-byte values under random keys. bench/serve.sh compiles and runs it.
+// Calls on a server in a closed loop: each connection sends a call, waits for its answer, and sends the next. Half are puts and half
+// are gets, of values under random keys. bench/serve.sh compiles and runs it.
 //
-//     load KIND PORT MEMBERS CONNECTIONS KEYS run SECONDS
-//     load KIND PORT MEMBERS CONNECTIONS KEYS idle SECONDS PID..
-//     load KIND PORT MEMBERS CONNECTIONS KEYS memory FEW MANY PID..
+//     load [OPTIONS] KIND PORT MEMBERS CONNECTIONS KEYS run SECONDS
+//     load [OPTIONS] KIND PORT MEMBERS CONNECTIONS KEYS idle SECONDS PID..
+//     load [OPTIONS] KIND PORT MEMBERS CONNECTIONS KEYS memory FEW MANY PID..
 //
-// KIND is grid, redis, memcached or echo. Connection c goes to port PORT + c % MEMBERS. A grid's member is primary of the partitions
-// whose number, modulo the members, is its own; a connection's keys are in those, since a key may state its hash.
+// KIND is grid, redis, redis-wait, memcached or echo. With redis-wait each put waits until a replica has it. Connection c goes to port
+// PORT + c % MEMBERS. A grid's member is primary of the partitions whose number, modulo the members, is its own; a connection's keys
+// are in those, since a key may state its hash.
+//
+// -p CALLS    how many calls each connection has under way, 1 to 64: 1 where it isn't given. Those whose calls were answered together
+//             are sent together
+// -v BYTES    how long a value is, 8 to 65536: 64
+// -t THREADS  on how many threads the connections are shared out, 1 to 64, for `run`: 1
+// -i IDLE     how many further connections stand open beside these and never call, up to 10000: 0
 //
 // run     puts every key once, warms up for a second, and prints calls, seconds, calls a second, and the median, the 99th
 //         and the 99.9th percentile of the time from a call to its answer in microseconds
@@ -18,6 +25,8 @@
 #include <arpa/inet.h>
 #include <errno.h>
 #include <netinet/tcp.h>
+#include <poll.h>
+#include <pthread.h>
 #include <stdbool.h>
 #include <stdint.h>
 #include <stdio.h>
@@ -28,42 +37,66 @@
 #include <time.h>
 #include <unistd.h>
 
-enum { PARTITIONS = 271, VALUE = 64, ROOM = 4096, PATIENCE_MS = 10000, MOST_CONNECTIONS = 10000 };
+enum { PARTITIONS = 271, PATIENCE_MS = 10000, MOST_CONNECTIONS = 10000, MOST_UNDER_WAY = 64, MOST_VALUE = 65536, MOST_THREADS = 64 };
+
+// What a call and an answer have beside a value, at most.
+enum { AROUND = 256 };
 
 // What an answer's bytes are so far.
 enum { INCOMPLETE = 0 };
+
+// A call that isn't answered yet.
+struct call {
+    uint64_t number;
+    uint64_t sent_ns;
+    uint32_t key;
+    bool is_put;
+    size_t length;
+};
 
 struct connection {
     int fd;
     uint32_t number;
     uint32_t member;
-    uint32_t key;
-    bool is_put;
-    uint64_t call;
-    uint64_t sent_ns;
-    size_t sent;
-    size_t have;
-    uint8_t in[ROOM];
+    uint64_t calls;
+    // Those under way, from the first that was sent.
+    struct call under_way[MOST_UNDER_WAY];
+    uint32_t first, count;
+    // What has come and isn't looked at yet.
+    size_t at, have;
+    uint8_t *in;
+};
+
+// What one thread has: its connections, and the poll that tells of them.
+struct client {
+    uint32_t first, last;
+    int poll_fd;
+    struct epoll_event events[256];
+    int event_count, event_at;
+    uint64_t random;
+    uint64_t *buckets;
+    uint64_t calls;
 };
 
 struct protocol {
     const char *name;
     // Puts what a client says first into `out`, and tells its length. 0: nothing, and no answer comes.
     size_t (*greeting)(const struct connection *, uint8_t *out);
-    // Puts the connection's call into `out`, and tells its length.
-    size_t (*request)(const struct connection *, uint8_t *out);
-    // The length of the whole answer that has come, or INCOMPLETE.
-    size_t (*answer)(const struct connection *, bool to_greeting);
+    // Puts a call into `out`, and tells its length.
+    size_t (*request)(const struct connection *, const struct call *, uint8_t *out);
+    // The length of the call's whole answer that has come, or INCOMPLETE. Without a call it is the answer to the greeting.
+    size_t (*answer)(const struct connection *, const struct call *, const uint8_t *in, size_t have);
 };
 
 static const struct protocol *protocol;
 static struct connection *connections;
 static uint32_t connection_count, member_count, key_count;
-static int poll_fd;
+static uint32_t depth = 1, value_length = 64, thread_count = 1, idle_count = 0;
+static size_t room;
 
 static void fail(const char *what, const struct connection *c) {
     if (c != NULL) {
-        fprintf(stderr, "load: %s (connection %u, call %llu)\n", what, c->number, (unsigned long long)c->call);
+        fprintf(stderr, "load: %s (connection %u, call %llu)\n", what, c->number, (unsigned long long)c->calls);
     } else {
         fprintf(stderr, "load: %s\n", what);
     }
@@ -76,11 +109,12 @@ static uint64_t now_ns(void) {
     return (uint64_t)t.tv_sec * 1000000000u + (uint64_t)t.tv_nsec;
 }
 
-static uint64_t next_random(void) {
-    static uint64_t state = 88172645463325252u;
+static uint64_t next_random(struct client *client) {
+    uint64_t state = client->random;
     state ^= state << 13;
     state ^= state >> 7;
     state ^= state << 17;
+    client->random = state;
     return state;
 }
 
@@ -108,16 +142,17 @@ static uint8_t *put_text(uint8_t *at, const char *text, size_t length) {
 
 // The value that stands under a key: its number, and dots.
 static uint8_t *put_value(uint8_t *at, uint32_t key) {
-    char text[VALUE + 1];
+    char text[9];
     snprintf(text, sizeof text, "%08u", key);
-    memset(text + 8, '.', VALUE - 8);
-    return put_text(at, text, VALUE);
+    memcpy(at, text, 8);
+    memset(at + 8, '.', value_length - 8);
+    return at + value_length;
 }
 
-static void check_value(const struct connection *c, const uint8_t *value, size_t length) {
-    uint8_t expected[VALUE];
-    put_value(expected, c->key);
-    if (length != VALUE || memcmp(value, expected, VALUE) != 0) {
+static void check_value(const struct connection *c, const struct call *call, const uint8_t *value, size_t length) {
+    char text[9];
+    snprintf(text, sizeof text, "%08u", call->key);
+    if (length != value_length || memcmp(value, text, 8) != 0 || (length > 8 && (value[8] != '.' || memcmp(value + 8, value + 9, length - 9) != 0))) {
         fail("a value that nobody put", c);
     }
 }
@@ -148,16 +183,16 @@ static size_t grid_greeting(const struct connection *c, uint8_t *out) {
 }
 
 // A partition of which the connection's member is primary.
-static uint32_t partition_of(const struct connection *c) {
+static uint32_t partition_of(const struct connection *c, const struct call *call) {
     uint32_t own = (PARTITIONS - c->member + member_count - 1) / member_count;
-    return c->member + member_count * (c->key / member_count % own);
+    return c->member + member_count * (call->key / member_count % own);
 }
 
-static uint8_t *put_key(uint8_t *at, const struct connection *c, uint32_t flags) {
+static uint8_t *put_key(uint8_t *at, const struct connection *c, const struct call *call, uint32_t flags) {
     char text[9];
-    snprintf(text, sizeof text, "%08u", c->key);
+    snprintf(text, sizeof text, "%08u", call->key);
     at = put_header(at, 16, flags);
-    uint32_t hash = partition_of(c) + PARTITIONS;
+    uint32_t hash = partition_of(c, call) + PARTITIONS;
     for (int shift = 24; shift >= 0; shift -= 8) {
         *at++ = (uint8_t)(hash >> shift);
     }
@@ -165,32 +200,32 @@ static uint8_t *put_key(uint8_t *at, const struct connection *c, uint32_t flags)
     return put_text(at, text, 8);
 }
 
-static size_t grid_request(const struct connection *c, uint8_t *out) {
-    uint8_t *at = put_header(out, c->is_put ? 32 : 24, WHOLE);
-    at = put_beginning(at, c->is_put ? PUT : GET, c->call, partition_of(c));
+static size_t grid_request(const struct connection *c, const struct call *call, uint8_t *out) {
+    uint8_t *at = put_header(out, call->is_put ? 32 : 24, WHOLE);
+    at = put_beginning(at, call->is_put ? PUT : GET, call->number, partition_of(c, call));
     at = put_low_first(at, 1, 8);
-    if (c->is_put) {
+    if (call->is_put) {
         at = put_low_first(at, 0, 8);
     }
     at = put_text(put_header(at, 1, 0), "m", 1);
-    at = put_key(at, c, c->is_put ? 0 : FINAL);
-    if (c->is_put) {
-        at = put_value(put_header(at, VALUE, FINAL), c->key);
+    at = put_key(at, c, call, call->is_put ? 0 : FINAL);
+    if (call->is_put) {
+        at = put_value(put_header(at, value_length, FINAL), call->key);
     }
     return (size_t)(at - out);
 }
 
 // The length of the message that has come, or INCOMPLETE.
-static size_t grid_message(const struct connection *c) {
+static size_t grid_message(const struct connection *c, const uint8_t *in, size_t have) {
     size_t at = 0;
-    while (at + HEADER <= c->have) {
-        size_t length = read_low_first(c->in + at, 4);
-        uint32_t flags = (uint32_t)read_low_first(c->in + at + 4, 2);
-        if (length < HEADER || length > ROOM) {
+    while (at + HEADER <= have) {
+        size_t length = read_low_first(in + at, 4);
+        uint32_t flags = (uint32_t)read_low_first(in + at + 4, 2);
+        if (length < HEADER || length > room) {
             fail("no frame", c);
         }
         at += length;
-        if (at > c->have) {
+        if (at > have) {
             return INCOMPLETE;
         }
         if (flags & FINAL) {
@@ -200,35 +235,35 @@ static size_t grid_message(const struct connection *c) {
     return INCOMPLETE;
 }
 
-static void check_beginning(const struct connection *c, uint32_t type) {
-    const uint8_t *payload = c->in + HEADER;
+static void check_beginning(const struct connection *c, const uint8_t *in, uint32_t type, uint64_t number) {
+    const uint8_t *payload = in + HEADER;
     uint32_t said = (uint32_t)read_low_first(payload, 4);
     if (said == 0) {
         char what[64];
         snprintf(what, sizeof what, "the answer is error %u", (unsigned)read_low_first(payload + 13, 4));
         fail(what, c);
     }
-    if (said != type + 1 || read_low_first(payload + 4, 8) != c->call) {
+    if (said != type + 1 || read_low_first(payload + 4, 8) != number) {
         fail("the answer to another call", c);
     }
 }
 
-static size_t grid_answer(const struct connection *c, bool to_greeting) {
-    size_t length = grid_message(c);
+static size_t grid_answer(const struct connection *c, const struct call *call, const uint8_t *in, size_t have) {
+    size_t length = grid_message(c, in, have);
     if (length == INCOMPLETE) {
         return INCOMPLETE;
     }
-    check_beginning(c, to_greeting ? AUTHENTICATE : c->is_put ? PUT : GET);
-    if (to_greeting) {
-        if (c->in[HEADER + 13] != 0) {
+    check_beginning(c, in, call == NULL ? AUTHENTICATE : call->is_put ? PUT : GET, call == NULL ? 0 : call->number);
+    if (call == NULL) {
+        if (in[HEADER + 13] != 0) {
             fail("the authentication wasn't accepted", c);
         }
         return length;
     }
-    size_t value = read_low_first(c->in, 4);
-    uint32_t flags = (uint32_t)read_low_first(c->in + value + 4, 2);
+    size_t value = read_low_first(in, 4);
+    uint32_t flags = (uint32_t)read_low_first(in + value + 4, 2);
     if (!(flags & NIL)) {
-        check_value(c, c->in + value + HEADER, length - value - HEADER);
+        check_value(c, call, in + value + HEADER, length - value - HEADER);
     }
     return length;
 }
@@ -242,102 +277,103 @@ static size_t no_greeting(const struct connection *c, uint8_t *out) {
 
 // Redis's protocol: arrays of texts with their lengths, and lines.
 
-static size_t redis_request(const struct connection *c, uint8_t *out) {
-    if (!c->is_put) {
-        return (size_t)sprintf((char *)out, "*2\r\n$3\r\nGET\r\n$8\r\n%08u\r\n", c->key);
+static size_t redis_request(const struct connection *c, const struct call *call, uint8_t *out) {
+    (void)c;
+    if (!call->is_put) {
+        return (size_t)sprintf((char *)out, "*2\r\n$3\r\nGET\r\n$8\r\n%08u\r\n", call->key);
     }
-    size_t length = (size_t)sprintf((char *)out, "*3\r\n$3\r\nSET\r\n$8\r\n%08u\r\n$64\r\n", c->key);
-    uint8_t *at = put_value(out + length, c->key);
+    size_t length = (size_t)sprintf((char *)out, "*3\r\n$3\r\nSET\r\n$8\r\n%08u\r\n$%u\r\n", call->key, value_length);
+    uint8_t *at = put_value(out + length, call->key);
     at = put_text(at, "\r\n", 2);
     return (size_t)(at - out);
 }
 
-static size_t redis_answer(const struct connection *c, bool to_greeting) {
-    (void)to_greeting;
-    const uint8_t *end = memchr(c->in, '\n', c->have);
-    if (end == NULL) {
+static size_t redis_wait_request(const struct connection *c, const struct call *call, uint8_t *out) {
+    static const char wait[] = "*3\r\n$4\r\nWAIT\r\n$1\r\n1\r\n$1\r\n0\r\n";
+    size_t length = redis_request(c, call, out);
+    if (!call->is_put) {
+        return length;
+    }
+    return (size_t)(put_text(out + length, wait, sizeof wait - 1) - out);
+}
+
+// Whether this text is what has come, or how much of it. Another one is a failure.
+static size_t expect(const struct connection *c, const char *text, const uint8_t *in, size_t have, const char *what) {
+    size_t length = strlen(text);
+    if (memcmp(in, text, have < length ? have : length) != 0) {
+        fail(what, c);
+    }
+    return have < length ? INCOMPLETE : length;
+}
+
+static size_t redis_get_answer(const struct connection *c, const struct call *call, const uint8_t *in, size_t have) {
+    char head[32];
+    if (have >= 2 && in[1] == '-') {
+        return expect(c, "$-1\r\n", in, have, "no answer to a get");
+    }
+    snprintf(head, sizeof head, "$%u\r\n", value_length);
+    size_t line = expect(c, head, in, have, "no answer to a get");
+    if (line == INCOMPLETE || have < line + value_length + 2) {
         return INCOMPLETE;
     }
-    size_t line = (size_t)(end - c->in) + 1;
-    if (c->is_put) {
-        if (line != 5 || memcmp(c->in, "+OK\r\n", 5) != 0) {
-            fail("no answer to a put", c);
-        }
-        return line;
-    }
-    if (line == 5 && memcmp(c->in, "$-1\r\n", 5) == 0) {
-        return line;
-    }
-    if (line != 5 || memcmp(c->in, "$64\r\n", 5) != 0) {
-        fail("no answer to a get", c);
-    }
-    if (c->have < line + VALUE + 2) {
-        return INCOMPLETE;
-    }
-    check_value(c, c->in + line, VALUE);
-    return line + VALUE + 2;
+    check_value(c, call, in + line, value_length);
+    return line + value_length + 2;
+}
+
+static size_t redis_answer(const struct connection *c, const struct call *call, const uint8_t *in, size_t have) {
+    return call->is_put ? expect(c, "+OK\r\n", in, have, "no answer to a put") : redis_get_answer(c, call, in, have);
+}
+
+// A put's answer is followed by the number of replicas that have it.
+static size_t redis_wait_answer(const struct connection *c, const struct call *call, const uint8_t *in, size_t have) {
+    return call->is_put ? expect(c, "+OK\r\n:1\r\n", in, have, "no answer to a put") : redis_get_answer(c, call, in, have);
 }
 
 // memcached's protocol, in its form of texts: lines, and values behind their lengths.
 
-static size_t memcached_request(const struct connection *c, uint8_t *out) {
-    if (!c->is_put) {
-        return (size_t)sprintf((char *)out, "get %08u\r\n", c->key);
+static size_t memcached_request(const struct connection *c, const struct call *call, uint8_t *out) {
+    (void)c;
+    if (!call->is_put) {
+        return (size_t)sprintf((char *)out, "get %08u\r\n", call->key);
     }
-    size_t length = (size_t)sprintf((char *)out, "set %08u 0 0 %d\r\n", c->key, VALUE);
-    uint8_t *at = put_value(out + length, c->key);
+    size_t length = (size_t)sprintf((char *)out, "set %08u 0 0 %u\r\n", call->key, value_length);
+    uint8_t *at = put_value(out + length, call->key);
     at = put_text(at, "\r\n", 2);
     return (size_t)(at - out);
 }
 
-// Whether these bytes, which have come, are that text.
-static bool is_text(const struct connection *c, size_t length, const char *text) {
-    return length == strlen(text) && memcmp(c->in, text, length) == 0;
-}
-
-static size_t memcached_answer(const struct connection *c, bool to_greeting) {
-    (void)to_greeting;
+static size_t memcached_answer(const struct connection *c, const struct call *call, const uint8_t *in, size_t have) {
     static const char end[] = "\r\nEND\r\n";
     char head[32];
-    const uint8_t *newline = memchr(c->in, '\n', c->have);
-    if (newline == NULL) {
+    if (call->is_put) {
+        return expect(c, "STORED\r\n", in, have, "no answer to a put");
+    }
+    if (have > 0 && in[0] == 'E') {
+        return expect(c, end + 2, in, have, "no answer to a get");
+    }
+    snprintf(head, sizeof head, "VALUE %08u 0 %u\r\n", call->key, value_length);
+    size_t line = expect(c, head, in, have, "no answer to a get");
+    size_t whole = line + value_length + sizeof end - 1;
+    if (line == INCOMPLETE || have < whole) {
         return INCOMPLETE;
     }
-    size_t line = (size_t)(newline - c->in) + 1;
-    if (c->is_put) {
-        if (!is_text(c, line, "STORED\r\n")) {
-            fail("no answer to a put", c);
-        }
-        return line;
-    }
-    if (is_text(c, line, "END\r\n")) {
-        return line;
-    }
-    snprintf(head, sizeof head, "VALUE %08u 0 %d\r\n", c->key, VALUE);
-    if (!is_text(c, line, head)) {
-        fail("no answer to a get", c);
-    }
-    size_t whole = line + VALUE + sizeof end - 1;
-    if (c->have < whole) {
-        return INCOMPLETE;
-    }
-    check_value(c, c->in + line, VALUE);
-    if (memcmp(c->in + line + VALUE, end, sizeof end - 1) != 0) {
-        fail("no end of a value", c);
-    }
+    check_value(c, call, in + line, value_length);
+    expect(c, end, in + line + value_length, sizeof end - 1, "no end of a value");
     return whole;
 }
 
 // An echo: what is sent comes back.
 
-static size_t echo_answer(const struct connection *c, bool to_greeting) {
-    (void)to_greeting;
-    return c->have < c->sent ? INCOMPLETE : c->sent;
+static size_t echo_answer(const struct connection *c, const struct call *call, const uint8_t *in, size_t have) {
+    (void)c;
+    (void)in;
+    return have < call->length ? INCOMPLETE : call->length;
 }
 
 static const struct protocol protocols[] = {
     {"grid", grid_greeting, grid_request, grid_answer},
     {"redis", no_greeting, redis_request, redis_answer},
+    {"redis-wait", no_greeting, redis_wait_request, redis_wait_answer},
     {"memcached", no_greeting, memcached_request, memcached_answer},
     {"echo", no_greeting, grid_request, echo_answer},
 };
@@ -346,8 +382,6 @@ static const struct protocol protocols[] = {
 
 static void send_all(struct connection *c, const uint8_t *bytes, size_t length) {
     size_t at = 0;
-    c->sent = length;
-    c->sent_ns = now_ns();
     while (at < length) {
         ssize_t count = send(c->fd, bytes + at, length - at, MSG_NOSIGNAL);
         if (count < 0 && errno == EINTR) {
@@ -362,7 +396,10 @@ static void send_all(struct connection *c, const uint8_t *bytes, size_t length) 
 
 // Takes what has come. False where nothing has.
 static bool receive(struct connection *c) {
-    ssize_t count = recv(c->fd, c->in + c->have, ROOM - c->have, MSG_DONTWAIT);
+    memmove(c->in, c->in + c->at, c->have - c->at);
+    c->have -= c->at;
+    c->at = 0;
+    ssize_t count = recv(c->fd, c->in + c->have, room - c->have, MSG_DONTWAIT);
     if (count == 0) {
         fail("the server has closed the connection", c);
     }
@@ -376,22 +413,6 @@ static bool receive(struct connection *c) {
     return true;
 }
 
-// Whether the answer has come. It is then taken out; nothing may follow it.
-static bool is_answered(struct connection *c, bool to_greeting) {
-    if (!receive(c)) {
-        return false;
-    }
-    size_t length = protocol->answer(c, to_greeting);
-    if (length == INCOMPLETE) {
-        return false;
-    }
-    if (length != c->have) {
-        fail("more came than one answer", c);
-    }
-    c->have = 0;
-    return true;
-}
-
 static void connect_to(struct connection *c, uint16_t port) {
     struct sockaddr_in place = {.sin_family = AF_INET, .sin_port = htons(port)};
     place.sin_addr.s_addr = htonl(INADDR_LOOPBACK);
@@ -401,100 +422,159 @@ static void connect_to(struct connection *c, uint16_t port) {
     }
     int yes = 1;
     setsockopt(c->fd, IPPROTO_TCP, TCP_NODELAY, &yes, sizeof yes);
-    struct epoll_event event = {.events = EPOLLIN, .data.u32 = c->number};
-    if (epoll_ctl(poll_fd, EPOLL_CTL_ADD, c->fd, &event) != 0) {
-        fail("the poll failed", c);
-    }
 }
 
-// The next connection with something to read, of a batch that the system tells at once.
-static struct connection *next_ready(void) {
-    static struct epoll_event events[256];
-    static int count = 0, at = 0;
-    while (at == count) {
-        at = 0;
-        count = epoll_wait(poll_fd, events, 256, PATIENCE_MS);
-        if (count == 0) {
-            fail("nothing came for ten seconds", NULL);
-        }
-        if (count < 0) {
-            count = 0;
-            if (errno != EINTR) {
-                fail("the poll failed", NULL);
-            }
-        }
-    }
-    return &connections[events[at++].data.u32];
-}
-
-static void open_connection(uint32_t number, uint16_t first_port) {
-    struct connection *c = &connections[number];
-    uint8_t greeting[ROOM];
-    c->number = number;
-    c->member = number % member_count;
-    connect_to(c, (uint16_t)(first_port + c->member));
+static void greet(struct connection *c) {
+    uint8_t greeting[AROUND];
     size_t length = protocol->greeting(c, greeting);
     if (length == 0) {
         return;
     }
     send_all(c, greeting, length);
-    while (!is_answered(next_ready(), true)) {
+    struct pollfd ready = {.fd = c->fd, .events = POLLIN};
+    size_t answer = INCOMPLETE;
+    while (answer == INCOMPLETE) {
+        if (poll(&ready, 1, PATIENCE_MS) == 0) {
+            fail("nothing came for ten seconds", c);
+        }
+        if (receive(c)) {
+            answer = protocol->answer(c, NULL, c->in, c->have);
+        }
     }
+    c->at = answer;
+}
+
+static void open_connection(uint32_t number, uint16_t first_port) {
+    struct connection *c = &connections[number];
+    c->number = number;
+    c->member = number % member_count;
+    c->in = malloc(room);
+    if (c->in == NULL) {
+        fail("out of memory", c);
+    }
+    connect_to(c, (uint16_t)(first_port + c->member));
+    greet(c);
 }
 
 // Calls.
 
-static void send_call(struct connection *c, uint32_t key, bool is_put) {
-    uint8_t request[ROOM];
-    c->key = key;
-    c->is_put = is_put;
-    c->call++;
-    send_all(c, request, protocol->request(c, request));
+// Puts a call behind those under way, and behind these bytes. Tells the end of the bytes.
+static uint8_t *add_call(struct connection *c, uint32_t key, bool is_put, uint8_t *at) {
+    struct call *call = &c->under_way[(c->first + c->count++) % MOST_UNDER_WAY];
+    call->number = ++c->calls;
+    call->key = key;
+    call->is_put = is_put;
+    call->length = protocol->request(c, call, at);
+    call->sent_ns = now_ns();
+    return at + call->length;
 }
 
-// Of every MEMBERS keys one is of the connection's member.
-static void send_random_call(struct connection *c) {
-    uint64_t random = next_random();
-    uint32_t key = (uint32_t)((random >> 1) % (key_count / member_count));
-    send_call(c, c->member + member_count * key, random & 1);
+// Sends so many calls at once. Of every MEMBERS keys one is of the connection's member.
+static void send_calls(struct client *client, struct connection *c, uint32_t count) {
+    static _Thread_local uint8_t bytes[MOST_UNDER_WAY * (AROUND + MOST_VALUE)];
+    uint8_t *at = bytes;
+    for (uint32_t sent = 0; sent < count; sent++) {
+        uint64_t random = next_random(client);
+        uint32_t key = (uint32_t)((random >> 1) % (key_count / member_count));
+        at = add_call(c, c->member + member_count * key, random & 1, at);
+    }
+    send_all(c, bytes, (size_t)(at - bytes));
 }
 
-static struct connection *next_answered(void) {
+// The next connection with something to read, of a batch that the system tells at once.
+static struct connection *next_ready(struct client *client) {
+    while (client->event_at == client->event_count) {
+        client->event_at = 0;
+        client->event_count = epoll_wait(client->poll_fd, client->events, 256, PATIENCE_MS);
+        if (client->event_count == 0) {
+            fail("nothing came for ten seconds", NULL);
+        }
+        if (client->event_count < 0) {
+            client->event_count = 0;
+            if (errno != EINTR) {
+                fail("the poll failed", NULL);
+            }
+        }
+    }
+    return &connections[client->events[client->event_at++].data.u32];
+}
+
+static unsigned bucket_of(uint64_t ns);
+
+// Takes the answers out that have come whole, and counts their calls' times. Tells how many there were.
+static uint32_t take_answers(struct client *client, struct connection *c) {
+    uint64_t now = now_ns();
+    uint32_t taken = 0;
+    while (c->count > 0) {
+        const struct call *call = &c->under_way[c->first];
+        size_t length = protocol->answer(c, call, c->in + c->at, c->have - c->at);
+        if (length == INCOMPLETE) {
+            return taken;
+        }
+        client->buckets[bucket_of(now - call->sent_ns)]++;
+        c->at += length;
+        c->first = (c->first + 1) % MOST_UNDER_WAY;
+        c->count--;
+        taken++;
+    }
+    if (c->at != c->have) {
+        fail("more came than the answers", c);
+    }
+    return taken;
+}
+
+// Waits until some connection had answers, and tells how many.
+static uint32_t next_answered(struct client *client, struct connection **answered) {
     for (;;) {
-        struct connection *c = next_ready();
-        if (is_answered(c, false)) {
-            return c;
+        struct connection *c = next_ready(client);
+        uint32_t taken = receive(c) ? take_answers(client, c) : 0;
+        if (taken > 0) {
+            *answered = c;
+            return taken;
+        }
+    }
+}
+
+static void watch(struct client *client) {
+    client->poll_fd = epoll_create1(0);
+    for (uint32_t number = client->first; number < client->last; number++) {
+        struct epoll_event event = {.events = EPOLLIN, .data.u32 = number};
+        if (client->poll_fd < 0 || epoll_ctl(client->poll_fd, EPOLL_CTL_ADD, connections[number].fd, &event) != 0) {
+            fail("the poll failed", &connections[number]);
         }
     }
 }
 
 // Puts each key of the members that there is a connection to, and leaves no call under way.
-static void fill(void) {
+static void fill(struct client *client) {
+    static uint8_t bytes[AROUND + MOST_VALUE];
+    struct connection *answered;
     for (uint32_t key = 0; key < key_count; key++) {
         if (key % member_count < connection_count) {
-            send_call(&connections[key % member_count], key, true);
-            next_answered();
+            struct connection *c = &connections[key % member_count];
+            send_all(c, bytes, (size_t)(add_call(c, key, true, bytes) - bytes));
+            next_answered(client, &answered);
         }
     }
 }
 
-static void begin_calls(void) {
-    for (uint32_t number = 0; number < connection_count; number++) {
-        send_random_call(&connections[number]);
+static void begin_calls(struct client *client) {
+    for (uint32_t number = client->first; number < client->last; number++) {
+        send_calls(client, &connections[number], depth);
     }
 }
 
-static void end_calls(void) {
-    for (uint32_t number = 0; number < connection_count; number++) {
-        next_answered();
+static void end_calls(struct client *client) {
+    uint64_t left = (uint64_t)depth * (client->last - client->first);
+    struct connection *answered;
+    while (left > 0) {
+        left -= next_answered(client, &answered);
     }
 }
 
 // Times, counted in buckets: 64 to each doubling, so that a percentile is right to two hundredths.
 
 enum { STEPS = 64, BUCKETS = 64 * STEPS };
-
-static uint64_t buckets[BUCKETS];
 
 static unsigned bucket_of(uint64_t ns) {
     if (ns < STEPS) {
@@ -512,7 +592,7 @@ static double bucket_ns(unsigned bucket) {
 }
 
 // The time that this share of the calls didn't pass, in microseconds.
-static double percentile(uint64_t calls, double share) {
+static double percentile(const uint64_t *buckets, uint64_t calls, double share) {
     uint64_t below = 0;
     for (unsigned bucket = 0; bucket < BUCKETS; bucket++) {
         below += buckets[bucket];
@@ -523,39 +603,81 @@ static double percentile(uint64_t calls, double share) {
     return 0;
 }
 
-// Calls until the time is up, and counts them.
-static uint64_t call_until(uint64_t end_ns) {
+// Calls until the time is up, and tells how many were answered.
+static uint64_t call_until(struct client *client, uint64_t end_ns) {
     uint64_t calls = 0;
     for (;;) {
-        struct connection *c = next_answered();
-        uint64_t now = now_ns();
-        if (now >= end_ns) {
-            send_random_call(c);
+        struct connection *c;
+        uint32_t taken = next_answered(client, &c);
+        send_calls(client, c, taken);
+        if (now_ns() >= end_ns) {
             return calls;
         }
-        buckets[bucket_of(now - c->sent_ns)]++;
-        calls++;
-        send_random_call(c);
+        calls += taken;
     }
 }
 
-static void call_often(uint64_t calls) {
-    for (uint64_t call = 0; call < calls; call++) {
-        send_random_call(next_answered());
+static void call_often(struct client *client, uint64_t calls) {
+    for (uint64_t call = 0; call < calls;) {
+        struct connection *c;
+        uint32_t taken = next_answered(client, &c);
+        send_calls(client, c, taken);
+        call += taken;
     }
+}
+
+static void begin_client(struct client *client, uint32_t first, uint32_t last) {
+    *client = (struct client){.first = first, .last = last, .random = 88172645463325252u + first, .buckets = calloc(BUCKETS, sizeof(uint64_t))};
+    if (client->buckets == NULL) {
+        fail("out of memory", NULL);
+    }
+    watch(client);
+}
+
+static uint64_t start_ns, end_ns;
+
+// One thread of a run: it warms up until the start, and then counts until the end.
+static void *run_client(void *given) {
+    struct client *client = given;
+    begin_calls(client);
+    call_until(client, start_ns);
+    memset(client->buckets, 0, BUCKETS * sizeof(uint64_t));
+    client->calls = call_until(client, end_ns);
+    end_calls(client);
+    return NULL;
+}
+
+static void fill_all(void) {
+    struct client client;
+    begin_client(&client, 0, connection_count);
+    fill(&client);
+    close(client.poll_fd);
+    free(client.buckets);
 }
 
 static void run(double seconds) {
-    fill();
-    begin_calls();
-    call_until(now_ns() + 1000000000u);
-    memset(buckets, 0, sizeof buckets);
-    uint64_t start = now_ns();
-    uint64_t calls = call_until(start + (uint64_t)(seconds * 1e9));
-    double took = (double)(now_ns() - start) / 1e9;
-    end_calls();
-    printf("%llu %.3f %.0f %.1f %.1f %.1f\n", (unsigned long long)calls, took, (double)calls / took,
-           percentile(calls, 0.5), percentile(calls, 0.99), percentile(calls, 0.999));
+    static struct client clients[MOST_THREADS];
+    static uint64_t buckets[BUCKETS];
+    pthread_t threads[MOST_THREADS];
+    fill_all();
+    start_ns = now_ns() + 1000000000u;
+    end_ns = start_ns + (uint64_t)(seconds * 1e9);
+    for (uint32_t at = 0; at < thread_count; at++) {
+        begin_client(&clients[at], connection_count * at / thread_count, connection_count * (at + 1) / thread_count);
+        if (pthread_create(&threads[at], NULL, run_client, &clients[at]) != 0) {
+            fail("no thread", NULL);
+        }
+    }
+    uint64_t calls = 0;
+    for (uint32_t at = 0; at < thread_count; at++) {
+        pthread_join(threads[at], NULL);
+        calls += clients[at].calls;
+        for (unsigned bucket = 0; bucket < BUCKETS; bucket++) {
+            buckets[bucket] += clients[at].buckets[bucket];
+        }
+    }
+    printf("%llu %.3f %.0f %.1f %.1f %.1f\n", (unsigned long long)calls, seconds, (double)calls / seconds,
+           percentile(buckets, calls, 0.5), percentile(buckets, calls, 0.99), percentile(buckets, calls, 0.999));
 }
 
 // What processes use.
@@ -611,13 +733,15 @@ static void idle(double seconds, char **pids) {
 }
 
 static void memory(uint64_t few, uint64_t many, char **pids) {
-    fill();
-    begin_calls();
-    call_often(few);
+    struct client client;
+    begin_client(&client, 0, connection_count);
+    fill(&client);
+    begin_calls(&client);
+    call_often(&client, few);
     uint64_t early = sum_over(pids, memory_of);
-    call_often(many - few);
+    call_often(&client, many - few);
     uint64_t late = sum_over(pids, memory_of);
-    end_calls();
+    end_calls(&client);
     printf("%llu %llu\n", (unsigned long long)early, (unsigned long long)late);
 }
 
@@ -643,17 +767,47 @@ static void open_all(char **words) {
     member_count = number_in(words[2], 1, 8);
     connection_count = number_in(words[3], 1, MOST_CONNECTIONS);
     key_count = number_in(words[4], member_count, 99999999);
-    poll_fd = epoll_create1(0);
-    connections = calloc(connection_count, sizeof *connections);
-    if (poll_fd < 0 || connections == NULL) {
+    if (thread_count > connection_count) {
+        thread_count = connection_count;
+    }
+    room = (size_t)depth * (AROUND + value_length) + AROUND;
+    connections = calloc(connection_count + idle_count, sizeof *connections);
+    if (connections == NULL) {
         fail("out of memory", NULL);
     }
-    for (uint32_t number = 0; number < connection_count; number++) {
+    for (uint32_t number = 0; number < connection_count + idle_count; number++) {
         open_connection(number, port);
     }
 }
 
+// Reads the options, and tells where the other words begin.
+static int read_options(int count, char **words) {
+    int option;
+    while ((option = getopt(count, words, "+p:v:t:i:")) != -1) {
+        switch (option) {
+        case 'p':
+            depth = number_in(optarg, 1, MOST_UNDER_WAY);
+            break;
+        case 'v':
+            value_length = number_in(optarg, 8, MOST_VALUE);
+            break;
+        case 't':
+            thread_count = number_in(optarg, 1, MOST_THREADS);
+            break;
+        case 'i':
+            idle_count = number_in(optarg, 0, MOST_CONNECTIONS);
+            break;
+        default:
+            fail("no such option: see the head of load.c", NULL);
+        }
+    }
+    return optind;
+}
+
 int main(int count, char **words) {
+    int first = read_options(count, words);
+    words += first - 1;
+    count -= first - 1;
     if (count < 8) {
         fail("too few words: see the head of load.c", NULL);
     }

@@ -1,6 +1,6 @@
 #!/usr/bin/env python3
-"""Draws what bench/serve.sh prints, as an SVG: calls a second by kind and connections, and below it the 99th percentile of the time
-from a call to its answer.
+"""Draws what bench/serve.sh prints, as an SVG: calls a second by kind and shape, and below it the 99th percentile of the time from a
+call to its answer.
 
     bench/serve.sh | tee table.txt
     bench/plot.py [TITLE] < table.txt > table.svg
@@ -16,7 +16,7 @@ from collections.abc import Iterable, Iterator, Sequence
 from dataclasses import dataclass
 from xml.sax.saxutils import escape, quoteattr
 
-WIDTH = 760
+WIDTH = 1100
 LEFT, RIGHT = 80, 20
 TOP, PANEL, GAP = 92, 220, 76
 
@@ -28,10 +28,10 @@ INK, FAINT = "#222222", "#dddddd"
 
 @dataclass(frozen=True)
 class Row:
-    """A line of the table: a kind with so many connections."""
+    """A line of the table: a kind, and in what shape its calls came."""
 
     kind: str
-    connections: int
+    shape: str
     calls: float
     p99: float
 
@@ -45,9 +45,9 @@ def rows_of(lines: Iterable[str]) -> list[Row]:
     cells = (line.split() for line in lines)
     head: list[str] = next((row for row in cells if row[:1] == ["kind"]), [])
     try:
-        places = [head.index(name) for name in ("kind", "connections", "calls/second", "p99/us")]
+        places = [head.index(name) for name in ("kind", "shape", "calls/second", "p99/us")]
     except ValueError as error:
-        raise NoTable("no line has the heads kind, connections, calls/second and p99/us") from error
+        raise NoTable("no line has the heads kind, shape, calls/second and p99/us") from error
     rows = []
     for row in cells:
         if not row:
@@ -60,8 +60,8 @@ def rows_of(lines: Iterable[str]) -> list[Row]:
 
 def row_of(cells: Sequence[str], places: Sequence[int]) -> Row:
     try:
-        kind, connections, calls, p99 = (cells[place] for place in places)
-        row = Row(kind, int(connections), float(calls), float(p99))
+        kind, shape, calls, p99 = (cells[place] for place in places)
+        row = Row(kind, shape, float(calls), float(p99))
     except (IndexError, ValueError) as error:
         raise NoTable(f"no line of the table: {' '.join(cells)}") from error
     if not (0 < row.calls < math.inf and 0 < row.p99 < math.inf):
@@ -69,7 +69,7 @@ def row_of(cells: Sequence[str], places: Sequence[int]) -> Row:
     return row
 
 
-# Shapes.
+# What is drawn.
 
 
 def text(x: float, y: float, words: str, *, anchor: str = "middle", size: int = 12, colour: str = INK) -> str:
@@ -93,6 +93,16 @@ def short(number: float) -> str:
         return f"{number:.3g}"
     unit, name = (1e3, "k") if number < 999_500 else (1e6, "M")
     return f"{number / unit:.3g}{name}"
+
+
+# The shapes that aren't a number of connections, in words.
+SHAPES = {"16p": "16, 16 calls each", "16k": "16, 16 KB", "busy": "16, busy machine", "idle": "1 of 1,001"}
+
+
+def told_shape(shape: str) -> str:
+    if shape in SHAPES:
+        return SHAPES[shape]
+    return f"{shape} connection{'s' if shape != '1' else ''}"
 
 
 # Scales.
@@ -134,7 +144,7 @@ def logarithmic_scale(numbers: Sequence[float]) -> Scale:
 
 @dataclass(frozen=True)
 class Chart:
-    """The rows of a table, and the orders in which kinds and numbers of connections are drawn."""
+    """The rows of a table. Kinds and shapes are drawn in the order in which they first stand there."""
 
     rows: Sequence[Row]
 
@@ -143,8 +153,8 @@ class Chart:
         return list(dict.fromkeys(row.kind for row in self.rows))
 
     @property
-    def groups(self) -> list[int]:
-        return sorted({row.connections for row in self.rows})
+    def groups(self) -> list[str]:
+        return list(dict.fromkeys(row.shape for row in self.rows))
 
     def colour(self, kind: str) -> str:
         return COLOURS[self.kinds.index(kind) % len(COLOURS)]
@@ -157,7 +167,7 @@ class Chart:
 
     def left_of(self, row: Row) -> float:
         """Where a row's bar begins."""
-        group = LEFT + self.group_width() * (self.groups.index(row.connections) + 0.08)
+        group = LEFT + self.group_width() * (self.groups.index(row.shape) + 0.08)
         return group + self.bar_width() * self.kinds.index(row.kind)
 
     def panel(self, top: float, title: str, scale: Scale, numbers: Sequence[float]) -> Iterator[str]:
@@ -171,13 +181,12 @@ class Chart:
         width = self.bar_width()
         for row, number in zip(self.rows, numbers, strict=True):
             height = PANEL * scale.height(number)
-            told = f"{row.kind}, {row.connections} connections: {number:g}"
+            told = f"{row.kind}, {told_shape(row.shape)}: {number:g}"
             yield bar(self.left_of(row) + 1, bottom - height, width - 2, height, self.colour(row.kind), told)
-            yield text(self.left_of(row) + width / 2, bottom - height - 4, short(number), size=10)
+            yield text(self.left_of(row) + width / 2, bottom - height - 4, short(number), size=8)
         yield line(LEFT, bottom, WIDTH - RIGHT, bottom, INK)
-        for place, connections in enumerate(self.groups):
-            told = f"{connections} connection{'s' if connections != 1 else ''}"
-            yield text(LEFT + self.group_width() * (place + 0.5), bottom + 18, told)
+        for place, shape in enumerate(self.groups):
+            yield text(LEFT + self.group_width() * (place + 0.5), bottom + 18, told_shape(shape))
 
     def legend(self) -> Iterator[str]:
         at = float(LEFT)

@@ -1,15 +1,22 @@
 #!/usr/bin/env bash
-# Times `grid serve`, with 3 members and 1 backup, beside Redis with one replica, memcached and an echo, each over TCP on this
-# machine: bench/serve.sh [SECONDS], from the repository's top once crates/grid is built (`rt run` there). SECONDS is how long
-# each shape of connections is timed, 5 where it isn't given. GRID names another program; KINDS, as "redis echo", names some.
-# bench/plot.py draws what it prints.
+# Times `grid serve` beside Redis, memcached and an echo, each over TCP on this machine: bench/serve.sh [SECONDS], from the
+# repository's top once ./build has made the program. SECONDS is how long each shape of calls is timed, 5 where it isn't given. GRID
+# names another program; KINDS, as "grid redis", some of the kinds; SHAPES, as "1 16p", some of the shapes; THREADS on how many threads
+# the clients are, a quarter of the processors where it isn't given, and one at least. bench/plot.py draws what it prints.
 #
-# load.c makes the calls, in a closed loop: each connection sends its next call once the one before is answered. Half are
-# puts and half are gets of 64-byte values, over 6,000 keys. A grid's connections are spread over the members, and send what
-# their member is primary of. A put of the grid answers the value before it; Redis's SET, as it is mostly used, answers OK. The
-# grid answers a put once its backup has it, and Redis before its replica has it, which is how it is run by default. Redis
-# writes nothing to disk here, as the grid doesn't. memcached keeps one copy, and has the four threads of its default. The echo
-# is one thread that sends back what comes: the floor.
+# The kinds: `grid` has three members and one backup, `grid-1` one member and no backup; `redis` one replica, and answers before it has
+# a write; `redis-wait` the same with `WAIT 1` behind each write, which is what the grid promises; memcached keeps one copy and has the
+# four threads of its default; `echo` is one thread that sends back what comes: the floor. Where the echo isn't above each of the
+# others at 1 connection, the run is to be thrown away, and the last line says so.
+#
+# The shapes: 1, 16, 64 and 512 connections, each with one call under way; `16p`, 16 connections with 16 calls each under way; `16k`, 16
+# connections and values of 16 KB; `busy`, 16 connections beside as many busy processes as there are processors; `idle`, one connection
+# beside 1,000 that say nothing.
+#
+# load.c makes the calls, in a closed loop: each connection sends its next call once one before is answered. Half are puts and half are
+# gets of 64-byte values, over 6,000 keys. A grid's connections are spread over the members, and send what their member is primary of.
+# A put of the grid answers the value before it; Redis's SET, as it is mostly used, answers OK. Redis writes nothing to disk here, as
+# the grid doesn't.
 #
 # The processor time at rest and the memory are those of all processes of a kind: Redis has two, the others one. A kind that
 # isn't installed is left out, with a word, and the exit status is then 1.
@@ -18,7 +25,10 @@ set -euo pipefail
 cd "$(dirname "$0")/.."
 seconds=${1:-5}
 grid=${GRID:-crates/grid/out/grid}
-kinds=${KINDS:-grid redis memcached echo}
+kinds=${KINDS:-grid grid-1 redis redis-wait memcached echo}
+shapes=${SHAPES:-1 16 64 512 16p 16k busy idle}
+processors=$(nproc)
+threads=${THREADS:-$((processors > 7 ? processors / 4 : 1))}
 keys=6000
 work=$(mktemp -d)
 started=()
@@ -74,14 +84,22 @@ wait_for() {
     exit 1
 }
 
-start_grid() {
-    port=$(free_ports 3)
-    members=3
-    # It goes on once its control script has ended.
-    "$grid" serve --members 3 --backups 1 --capacity 1000 --port "$port" --stay \
+# Starts a grid of so many members and backups. It goes on once its control script has ended.
+start_grid_of() {
+    port=$(free_ports "$1")
+    members=$1
+    "$grid" serve --members "$1" --backups "$2" --capacity 1000 --port "$port" --stay \
         <<<end >"$work/grid.out" 2>"$work/grid.log" &
     started+=($!)
-    wait_for $! $((port + 2))
+    wait_for $! $((port + $1 - 1))
+}
+
+start_grid() {
+    start_grid_of 3 1
+}
+
+start_grid-1() {
+    start_grid_of 1 0
 }
 
 start_redis() {
@@ -104,6 +122,10 @@ start_redis() {
     exit 1
 }
 
+start_redis-wait() {
+    start_redis
+}
+
 start_memcached() {
     port=$(free_ports 1)
     members=1
@@ -121,18 +143,58 @@ start_echo() {
     wait_for $! "$port"
 }
 
+# Makes calls on the kind: the options, and then the connections and what load.c shall do.
 load() {
-    timeout 600 "$work/load" "$kind" "$port" "$members" "$@"
+    local options=()
+    while [ "${1:0:1}" = - ]; do
+        options+=("$1" "$2")
+        shift 2
+    done
+    timeout 600 "$work/load" "${options[@]}" "${kind%-1}" "$port" "$members" "$@"
 }
 
-# A line of times for each number of connections.
+# Keeps each processor busy, until they are stopped.
+start_busy() {
+    busy=()
+    for ((at = 0; at < processors; at++)); do
+        (while :; do :; done) &
+        busy+=($!)
+    done
+    started+=("${busy[@]}")
+}
+
+stop_busy() {
+    kill "${busy[@]}"
+    wait "${busy[@]}" 2>/dev/null || true
+}
+
+# Calls of this shape.
+time_shape() {
+    local run=("$keys" run "$seconds")
+    case $1 in
+    16p) load -t "$threads" -p 16 16 "${run[@]}" ;;
+    16k) load -t "$threads" -v 16384 16 "${run[@]}" ;;
+    busy)
+        start_busy
+        load -t "$threads" 16 "${run[@]}"
+        stop_busy
+        ;;
+    idle) load -i 1000 1 "${run[@]}" ;;
+    *) load -t "$threads" "$1" "${run[@]}" ;;
+    esac
+}
+
+# A line of times for each shape.
 time_calls() {
-    local connections line
-    for connections in 1 16 64; do
-        line=$(load "$connections" "$keys" run "$seconds")
+    local shape line
+    for shape in $shapes; do
+        if ! line=$(time_shape "$shape"); then
+            printf '%-10s %11s %12s\n' "$kind" "$shape" failed
+            continue
+        fi
         # calls, seconds, calls a second, and the times of the median, of 99 and of 999 in a thousand
         set -- $line
-        printf '%-9s %11d %12d %9.1f %9.1f %9.1f\n' "$kind" "$connections" "$3" "$4" "$5" "$6"
+        printf '%-10s %11s %12d %9.1f %9.1f %9.1f\n' "$kind" "$shape" "$3" "$4" "$5" "$6" | tee -a "$work/times"
     done
 }
 
@@ -147,18 +209,18 @@ time_kind() {
     memory=$(load 16 "$keys" memory 10000 1000000 "${started[@]}")
     stop_all
     set -- $memory
-    printf '%-9s %11.2f %16d %16d\n' "$kind" "$rest" "$1" "$2" >>"$work/rest"
+    printf '%-10s %11.2f %16d %16d\n' "$kind" "$rest" "$1" "$2" >>"$work/rest"
 }
 
 is_there() {
     case $1 in
-    grid)
+    grid | grid-1)
         if [ ! -x "$grid" ]; then
-            echo "no program at $grid: build it with 'cd crates/grid && rt run', or set GRID" >&2
+            echo "no program at $grid: build it with ./build, or set GRID" >&2
             return 1
         fi
         ;;
-    redis)
+    redis | redis-wait)
         if ! command -v redis-server >/dev/null; then
             echo "no redis-server: 'apt-get install redis-server'" >&2
             return 1
@@ -173,10 +235,12 @@ is_there() {
     esac
 }
 
-cc -O2 -o "$work/load" bench/load.c
+cc -O2 -pthread -o "$work/load" bench/load.c
 cc -O2 -o "$work/echo" bench/echo.c
 : >"$work/rest"
-printf '%-9s %11s %12s %9s %9s %9s\n' kind connections calls/second p50/us p99/us p99.9/us
+: >"$work/times"
+echo "$processors processors, load $(cut -d ' ' -f 1 /proc/loadavg), clients on $threads threads, $seconds seconds a shape"
+printf '%-10s %11s %12s %9s %9s %9s\n' kind shape calls/second p50/us p99/us p99.9/us
 missing=0
 for kind in $kinds; do
     if is_there "$kind"; then
@@ -186,6 +250,10 @@ for kind in $kinds; do
     fi
 done
 echo
-printf '%-9s %11s %16s %16s\n' kind 'at rest/%' 'kB at 10,000' 'kB at 1,000,000'
+printf '%-10s %11s %16s %16s\n' kind 'at rest/%' 'kB at 10,000' 'kB at 1,000,000'
 cat "$work/rest"
+echo
+# Whether the floor is the fastest at one connection.
+awk '$2 == "1" { if ($1 == "echo") floor = $3; else if ($3 > most) most = $3 }
+    END { if (floor && floor <= most) print "the echo was not the fastest: throw this run away" }' "$work/times"
 exit $missing
