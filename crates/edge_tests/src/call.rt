@@ -46,15 +46,15 @@ pub(crate) fn open_somewhere(doors: &mut Doorway<'_>, rt: &HostRuntime, members:
     None
 }
 
-/// Waits for a connection. The answer is none where the doors fail.
+/// Waits for a connection, which has this key. The answer is none where the doors fail.
 #[tactic(auto, using(crate::proofs::Returns::kept, crate::proofs::Returns::kept_at_arrival))]
-pub(crate) fn next_caller(doors: &mut Doorway<'_>) -> Option<(u8, TcpSource, TcpSink)>
+pub(crate) fn next_caller(doors: &mut Doorway<'_>, key: usize) -> Option<(u8, TcpSource, TcpSink)>
     requires { length doors.old.listed.arrivals ≤ 1000 }
     ensures came { IfSome result (λ _. length doors.new.listed.arrivals ≡ length doors.old.listed.arrivals + 1) }
     ensures kept { IfSome result (λ _. doors.new.listed.returns ≡ doors.old.listed.returns) }
 {
     for _ in 0..100 {
-        match doors.accept() {
+        match doors.accept(key) {
             Ok(Accepted::Come { member, from, to }) => return Some((member, from, to)),
             Ok(Accepted::NotYet) if doors.wait(LONG).is_ok() => {}
             _ => return None,
@@ -86,8 +86,6 @@ pub(crate) enum Step {
     ReadFails,
     /// A write takes all of this.
     Writes(&'static [u8]),
-    /// The connection has this place at its doors.
-    HasPlace(usize),
 }
 
 /// What came out otherwise.
@@ -118,8 +116,8 @@ pub(crate) fn play(rt: &HostRuntime, steps: &[Step], heard: &[u8]) -> Result<(),
     }
 }
 
-/// Lets in a client of the member whose port this is, after so many others, and takes the steps. Gives the connection back, which
-/// ends the next wait at once: the client has heard just this.
+/// Lets in a client of the member whose port this is, with the key 0, after so many others, and takes the steps. Gives the
+/// connection back, which ends the next wait at once: the client has heard just this.
 pub(crate) fn play_at(
     doors: &mut Doorway<'_>,
     rt: &HostRuntime,
@@ -134,7 +132,7 @@ pub(crate) fn play_at(
     ensures came { OnOk result (length doors.new.listed.arrivals ≡ others + 1) }
     ensures below { OnOk result (AreBelow doors.new.listed.returns (others + 1)) }
 {
-    let Some(mut call) = let_in(doors, rt, port) else {
+    let Some(mut call) = let_in(doors, rt, port, 0) else {
         return Err(Missed::Coming);
     };
     if let Some(number) = call.take_all(doors, rt, steps) {
@@ -147,14 +145,19 @@ pub(crate) fn play_at(
     }
 }
 
-/// Lets in a client of the member whose port this is.
-pub(crate) fn let_in(doors: &mut Doorway<'_>, rt: &HostRuntime, port: u16) -> Option<Call>
+/// Lets in a client of the member whose port this is, with this key.
+pub(crate) fn let_in(
+    doors: &mut Doorway<'_>,
+    rt: &HostRuntime,
+    port: u16,
+    key: usize,
+) -> Option<Call>
     requires { length doors.old.listed.arrivals ≤ 1000 }
     ensures came { IfSome result (λ _. length doors.new.listed.arrivals ≡ length doors.old.listed.arrivals + 1) }
     ensures kept { IfSome result (λ _. doors.new.listed.returns ≡ doors.old.listed.returns) }
 {
     let client = connect(rt, port);
-    let (_, from, to) = next_caller(doors)?;
+    let (_, from, to) = next_caller(doors, key)?;
     Some(Call { client, from, to })
 }
 
@@ -210,7 +213,6 @@ impl Call {
             Step::ReadsNothing(room) => gives_nothing(&mut self.from, room),
             Step::ReadFails => self.from.read_ready(&mut [0; 8]).is_err(),
             Step::Writes(bytes) => self.to.write_ready(bytes) == Ok(Ready::Bytes(bytes.len())),
-            Step::HasPlace(place) => self.from.place() == place,
         }
     }
 

@@ -1,8 +1,7 @@
 ghost use Rattle.std.specs.Prelude.{length, ◌≡◌, ◌≤◌};
 
 use crate::call::Step::{
-    Arrives, HasPlace, Leaves, ReadFails, Reads, ReadsNothing, Says, Stops, Wait, WaitInVain,
-    Writes,
+    Arrives, Leaves, ReadFails, Reads, ReadsNothing, Says, Stops, Wait, WaitInVain, Writes,
 };
 use crate::call::{Call, Doorway, LONG, SHORT, let_in, open_somewhere, play, play_at};
 use grid_edge::{Doors, Ready, ReadySink};
@@ -105,13 +104,12 @@ fn a_wait_after_a_connection_was_closed_comes_back(rt: HostRuntime) {
     assert_eq!(rt; play(&rt, &[Wait(SHORT), WaitInVain], b""), Ok(()));
 }
 
-/// Whether two calls one after the other have the same place, and the second isn't taken to have ended as the first did.
-fn gives_a_place_again(doors: &mut Doorway<'_>, rt: &HostRuntime) -> bool {
+/// Whether of two calls one after the other, with the same key, the second isn't taken to have ended as the first did.
+fn gives_a_key_again(doors: &mut Doorway<'_>, rt: &HostRuntime) -> bool {
     let Some(port) = open_somewhere(doors, rt, 1) else {
         return false;
     };
     let first = [
-        HasPlace(0),
         Says(b"bye"),
         Leaves,
         Arrives,
@@ -120,7 +118,6 @@ fn gives_a_place_again(doors: &mut Doorway<'_>, rt: &HostRuntime) -> bool {
         Reads(8, b""),
     ];
     let second = [
-        HasPlace(0),
         Says(b"hello"),
         Arrives,
         Wait(LONG),
@@ -139,9 +136,9 @@ fn gives_a_place_again(doors: &mut Doorway<'_>, rt: &HostRuntime) -> bool {
 }
 
 #[test]
-fn a_place_is_given_again(rt: HostRuntime) {
+fn a_key_is_given_again(rt: HostRuntime) {
     let mut doors = TcpDoors::new(&rt);
-    assert!(rt; gives_a_place_again(&mut doors, &rt));
+    assert!(rt; gives_a_key_again(&mut doors, &rt));
 }
 
 /// Writes until there is no room, and says how much that was.
@@ -198,7 +195,7 @@ fn goes_on<T: Threads>(doors: &mut Doorway<'_>, rt: &HostRuntime, threads: &T) -
             from,
             mut to,
         },
-    ) = let_in(doors, rt, port)
+    ) = let_in(doors, rt, port, 0)
     else {
         return false;
     };

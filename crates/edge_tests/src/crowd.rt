@@ -9,13 +9,13 @@ use tcp_edge::TcpDoors;
 /// How many clients there are.
 const MANY: usize = 300;
 
-/// Lets in many.
+/// Lets in many, each with its number as its key.
 fn gather(doors: &mut Doorway<'_>, rt: &HostRuntime, port: u16) -> Option<Vec<Call>>
     requires { length doors.old.listed.arrivals ≡ 0 }
 {
     let mut calls = Vec::new(rt.alloc());
-    for _ in 0..MANY {
-        let call = let_in(doors, rt, port)?;
+    for number in 0..MANY {
+        let call = let_in(doors, rt, port, number)?;
         calls.push(call).ok()?;
     }
     Some(calls)

@@ -7,18 +7,18 @@ use grid_edge::{
 };
 use std::alloc::Global;
 
-type Guests = MemoryDoors<MemorySource, MemorySink>;
+pub(crate) type Guests = MemoryDoors<MemorySource, MemorySink>;
 
 /// What a look for a connection found.
 #[derive(Clone, Copy, Debug, PartialEq, Eq)]
-enum Look {
+pub(crate) enum Look {
     Came(u8),
     NotYet,
     Fault,
 }
 
 /// Doors with a guest for each of these members, who sends a byte, the member's number. The calls with these numbers fail.
-fn doors_for(alloc: Global, members: &[u8], fails: &[u64]) -> Option<Guests>
+pub(crate) fn doors_for(alloc: Global, members: &[u8], fails: &[u64]) -> Option<Guests>
     ensures { IfSome result (λ doors. doors.accepted ≡ []) }
 {
     let mut list = Vec::new(alloc);
@@ -31,15 +31,15 @@ fn doors_for(alloc: Global, members: &[u8], fails: &[u64]) -> Option<Guests>
     MemoryDoors::new(list, fails.to_vec(alloc).ok()?).ok()
 }
 
-/// Looks for a connection, which is dropped.
-fn look_once<D: Doors>(doors: &mut D) -> Look
+/// Looks for a connection, which has this key and is dropped.
+pub(crate) fn look_once<D: Doors>(doors: &mut D, key: usize) -> Look
 where
     D::From: Drop,
     D::To: Drop,
     requires { length (D.book doors.old).arrivals ≤ 100 }
     ensures { length (D.book doors.new).arrivals ≤ length (D.book doors.old).arrivals + 1 }
 {
-    match doors.accept() {
+    match doors.accept(key) {
         Ok(Accepted::Come { member, .. }) => Look::Came(member),
         Ok(Accepted::NotYet) => Look::NotYet,
         Err(DoorFault) => Look::Fault,
@@ -54,10 +54,10 @@ where
 {
     doors.open(3, 5701)?;
     Ok([
-        look_once(doors),
-        look_once(doors),
-        look_once(doors),
-        look_once(doors),
+        look_once(doors, 0),
+        look_once(doors, 0),
+        look_once(doors, 0),
+        look_once(doors, 0),
     ])
 }
 
@@ -100,7 +100,7 @@ fn calls_of_the_list_fail(rt: HostRuntime) {
 /// Opens the doors, lets in one who comes, sends back what it sent, and gives it back. Its member is the answer.
 fn serve_one<D: Doors>(doors: &mut D, memory: bool) -> Result<Option<u8>, DoorFault> {
     doors.open(8, 65_528)?;
-    match doors.accept()? {
+    match doors.accept(0)? {
         Accepted::Come {
             member,
             mut from,
@@ -156,7 +156,7 @@ where
     D::Waker: Drop,
     requires { (D.book doors.old).arrivals ≡ [] }
 {
-    let found = look_once(doors);
+    let found = look_once(doors, 0);
     if let Ok(waker) = doors.waker() {
         waker.wake();
     }

@@ -14,6 +14,8 @@ mod memory;
 #[cfg(test)]
 mod ports;
 #[cfg(test)]
+mod ready;
+#[cfg(test)]
 mod standard;
 #[cfg(test)]
 mod wakes;

@@ -7,12 +7,12 @@ use std::thread;
 use std::time::Duration;
 use tcp_edge::TcpDoors;
 
-/// The member of the next connection, which is closed at once.
+/// The member of the next connection, which has the key 1 and is closed at once.
 fn next_member(doors: &mut Doorway<'_>) -> Option<u8>
     requires { length doors.old.listed.arrivals ≤ 1000 }
     ensures { IfSome result (λ _. length doors.new.listed.arrivals ≡ length doors.old.listed.arrivals + 1) }
 {
-    let (member, _, _) = next_caller(doors)?;
+    let (member, _, _) = next_caller(doors, 1)?;
     Some(member)
 }
 
@@ -24,7 +24,7 @@ where
     requires { length (D.book doors.old).arrivals ≤ 1000 }
     ensures { length (D.book doors.new).arrivals ≤ length (D.book doors.old).arrivals + 1 }
 {
-    matches!(doors.accept(), Ok(Accepted::NotYet))
+    matches!(doors.accept(1), Ok(Accepted::NotYet))
 }
 
 /// The members of the next connections where one has come to the second member and two to the first.
@@ -70,7 +70,7 @@ fn who_comes_is_let_in_once_it_is_reported(rt: HostRuntime) {
 /// for.
 fn move_elsewhere(doors: &mut Doorway<'_>, rt: &HostRuntime) -> Option<bool> {
     let before = open_somewhere(doors, rt, 2)?;
-    let mut early = let_in(doors, rt, before + 1)?;
+    let mut early = let_in(doors, rt, before + 1, 0)?;
     let port = open_somewhere(doors, rt, 1)?;
     let is_closed = connect(rt, before).is_none();
     let late = connect(rt, port);

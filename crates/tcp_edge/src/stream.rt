@@ -107,7 +107,6 @@ impl Wait {
 #[derive(Drop)]
 pub struct TcpSource {
     stream: Arc<TcpStream>,
-    place: usize,
     reports: Arc<Reports>,
     wait: Wait,
     counts: Counts,
@@ -141,10 +140,9 @@ impl Model for TcpSink {
     ghost view = { λ s. record { taken = s.took; faults = s.counts.faults; unready = s.counts.unready } };
 }
 
-/// The two ends of this connection, which has this place at the poll that reports of it.
+/// The two ends of this connection, of which this is reported.
 pub(crate) fn ends(
     stream: Arc<TcpStream>,
-    place: usize,
     reports: Arc<Reports>,
 ) -> Result<(TcpSource, TcpSink), AllocError> {
     let to = TcpSink {
@@ -156,7 +154,6 @@ pub(crate) fn ends(
     };
     let from = TcpSource {
         stream,
-        place,
         reports,
         wait: Wait::new(),
         counts: Counts::new(),
@@ -171,14 +168,6 @@ pub(crate) fn close(from: TcpSource, to: TcpSink) {
     let _ = to.stream.shutdown(Shutdown::Both);
     drop(from);
     drop(to);
-}
-
-impl TcpSource {
-    /// The place of the connection at its doors. Of those that stand at once no two have the same, and a place is given
-    /// again once its connection was given back.
-    pub fn place(&self) -> usize {
-        self.place
-    }
 }
 
 impl ReadySource for TcpSource {
