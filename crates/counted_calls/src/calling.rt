@@ -17,8 +17,8 @@ use crate::requests::{CALLS, request};
 use grid_base::{Bytes, Memory};
 use hand_cell::LiveOutcome;
 use live_grid::{LiveGrid, LiveWorld};
-use partition_threads::Workplace;
-use session_calls::{Finished, SessionPass, Started, Unstarted};
+use partition_threads::{Obstacle, Workplace};
+use session_calls::{Finished, SessionPass, Started};
 use std::alloc::{AllocError, Global};
 use std::sync::Wait;
 use std::thread;
@@ -42,8 +42,8 @@ fn start_call<R: Wait>(
         let request = request(alloc, key, session.conn, number)?;
         match session.start(rt, alloc, place, request, 0) {
             Ok(started) => return Ok(started),
-            Err(Unstarted::Busy) => thread::yield_now(),
-            Err(Unstarted::Memory) => return Err(AllocError),
+            Err(Obstacle::Busy) => thread::yield_now(),
+            Err(Obstacle::Memory) => return Err(AllocError),
         }
     }
     unreachable!()

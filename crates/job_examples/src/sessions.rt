@@ -11,8 +11,8 @@ use crate::serving::{number_in, token_at};
 use grid_base::Memory;
 use hand_cell::{Cell, Pass};
 use job_queues::QueuePass;
-use partition_threads::{OpenGate, THREADS, WorkerTokens, Workplace, worker};
-use session_calls::{Finished, SessionPass, Started, Unstarted};
+use partition_threads::{Obstacle, OpenGate, THREADS, WorkerTokens, Workplace, worker};
+use session_calls::{Finished, SessionPass, Started};
 use std::alloc::{AllocError, Global};
 use std::sync::Wait;
 
@@ -62,7 +62,7 @@ fn start<R: Wait>(
     place: &Workplace<Relay>,
     session: &mut SessionPass<Relay>,
     conn: u32,
-) -> Result<Started<Relay>, Unstarted>
+) -> Result<Started<Relay>, Obstacle>
     requires { IsNewSession place.now conn session.old }
     ensures session { IsSessionOf place.now session.new }
     ensures started { IfOk result (λ started. IsAwaited place.now session.new started) }
@@ -125,7 +125,7 @@ pub fn call_alone<R: Wait>(rt: &R, alloc: Global) -> Result<Story, Memory> {
         return Err(AllocError);
     };
     let busy = match start(rt, alloc, &place, &mut second, 2) {
-        Err(Unstarted::Busy) => {
+        Err(Obstacle::Busy) => {
             let stayed = has_pass(&second);
             second.close(&place, &mut passes);
             stayed

@@ -16,8 +16,8 @@ use Rattle.loop_journal.specs.declared.entry.Entry.TheVariants.{Started as Start
 use Rattle.loop_journal.specs.declared.entry.NotedCall.{NotedCall}
 use Rattle.message_frames.specs.Messages.{messages_of}
 use Rattle.partition_threads.specs.declared.workplace.Workplace.{Workplace}
-use Rattle.session_calls.specs.declared.calls.Unstarted.{Unstarted}
-use Rattle.session_calls.specs.declared.calls.Unstarted.TheVariants.{Busy, Memory as NoMemory}
+use Rattle.partition_threads.specs.declared.starting.Obstacle.{Obstacle}
+use Rattle.partition_threads.specs.declared.starting.Obstacle.TheVariants.{Busy, Memory as NoMemory}
 use Rattle.session_calls.specs.declared.session.SessionPass.{SessionPass}
 use Rattle.session_calls.specs.declared.session.Started.{Started}
 use Rattle.session_calls.specs.Calls.{MayCall, HasStarted, HasRefused}
@@ -178,7 +178,7 @@ module _ {T P E O : Type 0} (key_of : E → Key) (tells : P → List E → E →
       }
 
     -- or wasn't started
-    module _ (idle : c.asked ≡ None) (pass_now : SessionPass T P E O) (kept : IsSessionOf place pass_now) (why : Unstarted) (refused : HasRefused c.pass pass_now request.partition why) where
+    module _ (idle : c.asked ≡ None) (pass_now : SessionPass T P E O) (kept : IsSessionOf place pass_now) (why : Obstacle) (refused : HasRefused c.pass pass_now request.partition why) where
       passes : HaveSeen pass_now (λ partition. ⊥) seen
       passes partition inside away = let was = served.remains.passes partition (subst (λ (l : List (Option (Told E))). partition < length l) refused.same_passes inside) away in record {
         pass = was.pass;
@@ -190,7 +190,7 @@ module _ {T P E O : Type 0} (key_of : E → Key) (tells : P → List E → E →
       answers_call : (told : List ℕ) → told ≡ unstarted_bytes request.correlation why → IsNotRun key_of tells call_of log place request (seen request.partition) told
       answers_call told is = go why is
         where
-          go : (w : Unstarted) → told ≡ unstarted_bytes request.correlation w → IsNotRun key_of tells call_of log place request (seen request.partition) told
+          go : (w : Obstacle) → told ≡ unstarted_bytes request.correlation w → IsNotRun key_of tells call_of log place request (seen request.partition) told
           go Busy e = record { nowhere = is_new; code = busy; why = inl refl; reply_is = e }
           go NoMemory e = record { nowhere = is_new; code = want_of_memory; why = inr (inl refl); reply_is = e }
 

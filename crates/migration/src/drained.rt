@@ -8,6 +8,7 @@ use crate::ended::Committed;
 use crate::replacing::{Replacing, Underway};
 use partition_table::Row;
 use std::alloc::Global;
+use thiserror::Error;
 
 /// The step of [`Drained`].
 #[derive(Debug, Drop)]
@@ -19,9 +20,9 @@ impl Underway for DrainedStep {}
 pub type Drained = Replacing<DrainedStep>;
 
 /// Why a move wasn't committed. The refusal hands the state back.
-#[derive(Debug, Drop)]
+#[derive(Debug, Drop, Error)]
 pub enum DrainedRefused {
-    /// There is no memory for the next row.
+    #[error("there is no memory for the next row")]
     Memory(Drained),
 }
 

@@ -10,6 +10,7 @@ use crate::replacing::{Replacing, Underway};
 use grid_base::{MemberId, Memory};
 use partition_table::Row;
 use std::alloc::Global;
+use thiserror::Error;
 
 /// The step of [`Joined`].
 #[derive(Debug, Drop)]
@@ -21,11 +22,11 @@ impl Underway for JoinedStep {}
 pub type Joined = Replacing<JoinedStep>;
 
 /// Why a source wasn't dropped. Each refusal hands the state back.
-#[derive(Debug, Drop)]
+#[derive(Debug, Drop, Error)]
 pub enum JoinedRefused {
-    /// A primary has to be frozen and drained before it leaves.
+    #[error("a primary has to be frozen and drained before it leaves")]
     IsPrimary(Joined),
-    /// There is no memory for the next row.
+    #[error("there is no memory for the next row")]
     Memory(Joined),
 }
 

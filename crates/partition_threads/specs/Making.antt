@@ -8,11 +8,10 @@ use Rattle.hand_cell.specs.Told.{Told}
 use Rattle.job_queues.specs.Answers.{IsDone}
 use Rattle.job_queues.specs.Roster.{Roster}
 use Rattle.job_queues.specs.Terms.{Terms}
-use Rattle.job_queues.specs.Tokens.{Token, after_full_look}
+use Rattle.job_queues.specs.Tokens.{Token}
 use Rattle.partition_threads.specs.declared.making.Made.{Made}
 use Rattle.partition_threads.specs.declared.making.Made.TheVariants.{Done, Started, Kept}
-use Rattle.partition_threads.specs.declared.making.Obstacle.TheVariants.{Busy, Memory}
-use Rattle.partition_threads.specs.Starting.{IsAwaited}
+use Rattle.partition_threads.specs.Starting.{IsAwaited, HasMet}
 use Rattle.partition_threads.specs.Steps.{IsRun}
 
 module _ {T P E O : Type 0} (key_of : E → Key) (tells : P → List E → E → LiveOutcome → Type 0) (call_of : ℕ → Request → ℕ → E) (roster : Roster P) where
@@ -34,7 +33,6 @@ module _ {T P E O : Type 0} (key_of : E → Key) (tells : P → List E → E →
 module _ {T P E O : Type 0} where
   -- the count of full looks rose exactly where the queue was found full
   abbrev pub HasTold : Token P → Token P → Made T P E O → Type 0
-  HasTold old new (Kept call Busy) = new ≡ after_full_look old
-  HasTold old new (Kept call Memory) = new ≡ old
+  HasTold old new (Kept call why) = HasMet why old new
   HasTold old new (Started awaited) = new ≡ old
   HasTold old new (Done done) = new ≡ old

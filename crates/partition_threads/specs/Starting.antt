@@ -7,8 +7,14 @@ use Rattle.job_queues.specs.Roster.{Roster}
 use Rattle.job_queues.specs.Terms.{Terms}
 use Rattle.job_queues.specs.Tokens.{Token, after_full_look}
 use Rattle.partition_threads.specs.declared.starting.Awaited.{Awaited}
+use Rattle.partition_threads.specs.declared.starting.Obstacle.{Obstacle}
+use Rattle.partition_threads.specs.declared.starting.Obstacle.TheVariants.{Busy, Memory}
 use Rattle.partition_threads.specs.declared.starting.StartRefused.{StartRefused}
-use Rattle.partition_threads.specs.declared.starting.StartRefused.TheVariants.{Busy, Memory}
+
+-- The count of full looks rose where the queue was found full, and only there
+abbrev pub HasMet : {P : Type 0} → Obstacle → Token P → Token P → Type 0
+HasMet Busy old new = new ≡ after_full_look old
+HasMet Memory old new = new ≡ old
 
 module _ {T P E O : Type 0} where
   -- It is the receiver's side of a parcel that was made on these terms
@@ -25,5 +31,4 @@ module _ {T P E O : Type 0} where
 
   -- The pass comes back as it was. Busy comes only where the count of full looks rose
   abbrev pub IsUnstarted : Told E → Token P → Token P → StartRefused T P E O → Type 0
-  IsUnstarted pass old new (Busy back) = (back ≡ pass) × (new ≡ after_full_look old)
-  IsUnstarted pass old new (Memory back) = (back ≡ pass) × (new ≡ old)
+  IsUnstarted pass old new refused = (refused.pass ≡ pass) × HasMet refused.why old new

@@ -20,7 +20,7 @@ mod workplace;
 
 pub use calls::HeldCall;
 pub use gate::{Gate, OpenGate};
-pub use making::{MOST_DELIVERIES, Made, Obstacle};
-pub use starting::{Awaited, StartRefused};
+pub use making::{MOST_DELIVERIES, Made};
+pub use starting::{Awaited, Obstacle, StartRefused};
 pub use workers::{WorkerTokens, worker};
 pub use workplace::{THREADS, Workplace, worker_of};

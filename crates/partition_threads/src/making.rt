@@ -13,7 +13,7 @@ ghost use Rattle.partition_threads.specs.Steps.{IsRun};
 ghost use Rattle.partition_threads.specs.Workplaces.{IsTokenAt};
 
 use crate::gate::Gate;
-use crate::starting::{Awaited, StartRefused};
+use crate::starting::{Awaited, Obstacle, StartRefused};
 use crate::turns::{Step, try_call_turn, try_delivery_turn};
 use crate::workplace::{Workplace, worker_of};
 use grid_base::{MemberId, Moment, Request};
@@ -21,20 +21,9 @@ use hand_cell::{LiveOutcome, Pass, Runs, Served};
 use job_queues::{BegunCall, Busy, Done, Job, NewCall, QueuePass, Unmade, Work};
 use std::alloc::Global;
 use std::sync::Wait;
-use thiserror::Error;
 
 /// How many messages a caller delivers for a call at most before it hands the call over.
 pub const MOST_DELIVERIES: u32 = 64;
-
-/// Why a call that has run wasn't handed over.
-#[derive(Clone, Copy, Debug, PartialEq, Eq, Error)]
-pub enum Obstacle {
-    /// The worker's queue was full at a moment of the call.
-    #[error("the worker's queue was full")]
-    Busy,
-    #[error("there is no memory to hand the call over")]
-    Memory,
-}
 
 /// What a call came to.
 #[derive(Drop)]
@@ -79,7 +68,7 @@ impl<T: Served> Workplace<T> {
         requires env { All (λ cell. T.means env.now (plan_of cell)) self.now.cells.items }
         ensures made { IfOk result (λ made. HasMade T.key_of T.tells T.call_of (roster_of self.now.cells.items) pass member request now made) }
         ensures told { IfOk result (λ made. HasTold token.old token.new made) }
-        ensures refused { IfErr result (λ why. IsUnstarted pass token.old token.new why) }
+        ensures refused { IfErr result (λ refused. IsUnstarted pass token.old token.new refused) }
     {
         let worker = worker_of(member, request.partition);
         let call = NewCall {
@@ -139,7 +128,7 @@ impl<T: Served> Workplace<T> {
         ensures came { (terms : Terms T.Plan T.Event) → IsNew T.key_of T.call_of T.fits (roster_of self.now.cells.items) terms call
             → IfOk result (λ made. CameTo T.key_of T.tells T.call_of (roster_of self.now.cells.items) terms call.member call.request.partition call.request.id made) }
         ensures told { IfOk result (λ made. HasTold token.old token.new made) }
-        ensures refused { IfErr result (λ why. IsUnstarted call.pass token.old token.new why) }
+        ensures refused { IfErr result (λ refused. IsUnstarted call.pass token.old token.new refused) }
     {
         match self.start_call(rt, alloc, token, call) {
             Ok(awaited) => Ok(Made::Started(awaited)),

@@ -14,7 +14,9 @@ use grid_base::{MemberId, Moment, Request};
 use hand_cell::{Pass, Served};
 use job_queues::{Busy, Done, Job, NewCall, Parcel, ParcelEnd, QueuePass, Unmade, Work};
 use std::alloc::Global;
+use std::fmt;
 use std::sync::{Arc, Wait};
+use thiserror::Error;
 
 /// A call that was started: the receiver's side of its parcel.
 #[derive(Drop)]
@@ -23,12 +25,30 @@ pub struct Awaited<T: Served> {
     pub end: ParcelEnd<T>,
 }
 
-/// Why a call wasn't started. The pass comes back as it was.
-#[derive(Drop)]
-pub enum StartRefused<T: Served> {
+/// Why a call wasn't handed over to its worker.
+#[derive(Clone, Copy, Debug, PartialEq, Eq, Error)]
+pub enum Obstacle {
     /// The worker's queue was full at a moment of the call.
-    Busy(Pass<T>),
-    Memory(Pass<T>),
+    #[error("the worker's queue was full")]
+    Busy,
+    #[error("there is no memory to hand the call over")]
+    Memory,
+}
+
+/// A call that wasn't started, and why. The pass comes back as it was.
+#[derive(Drop, Error)]
+#[error("{why}")]
+pub struct StartRefused<T: Served> {
+    pub pass: Pass<T>,
+    pub why: Obstacle,
+}
+
+impl<T: Served> fmt::Debug for StartRefused<T> {
+    fn fmt<W: fmt::Write>(&self, f: &mut fmt::Formatter<W>) -> fmt::Result {
+        f.debug_struct("StartRefused")
+            .field("why", &self.why)
+            .finish_non_exhaustive()
+    }
 }
 
 impl<T: Served> Workplace<T> {
@@ -51,7 +71,7 @@ impl<T: Served> Workplace<T> {
         requires within { T.fits request }
         ensures started { IfOk result (λ awaited. HasStarted T.call_of (roster_of self.now.cells.items) pass member request now awaited) }
         ensures same { IfOk result (λ _. token.new ≡ token.old) }
-        ensures refused { IfErr result (λ why. IsUnstarted pass token.old token.new why) }
+        ensures refused { IfErr result (λ refused. IsUnstarted pass token.old token.new refused) }
     {
         let call = NewCall {
             pass,
@@ -75,7 +95,7 @@ impl<T: Served> Workplace<T> {
         ensures started { (terms : Terms T.Plan T.Event) → IsNew T.key_of T.call_of T.fits (roster_of self.now.cells.items) terms call
             → IfOk result (λ awaited. IsAwaited terms awaited) }
         ensures same { IfOk result (λ _. token.new ≡ token.old) }
-        ensures refused { IfErr result (λ why. IsUnstarted call.pass token.old token.new why) }
+        ensures refused { IfErr result (λ refused. IsUnstarted call.pass token.old token.new refused) }
     {
         let cell = &self.cells[usize::from(call.request.partition)];
         match Job::new(alloc, cell, call) {
@@ -84,12 +104,18 @@ impl<T: Served> Workplace<T> {
                 Err(Busy { job }) => {
                     let Job { work, .. } = job;
                     match work {
-                        Work::New(call) => Err(StartRefused::Busy(call.pass)),
+                        Work::New(call) => Err(StartRefused {
+                            pass: call.pass,
+                            why: Obstacle::Busy,
+                        }),
                         Work::Begun(_) => unreachable!(),
                     }
                 }
             },
-            Err(Unmade { call }) => Err(StartRefused::Memory(call.pass)),
+            Err(Unmade { call }) => Err(StartRefused {
+                pass: call.pass,
+                why: Obstacle::Memory,
+            }),
         }
     }
 }

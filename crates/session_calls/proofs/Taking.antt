@@ -14,12 +14,10 @@ use Rattle.job_queues.specs.Terms.{Terms}
 use Rattle.job_queues.specs.Tokens.{Token, IsSameQueue, after_full_look}
 use Rattle.partition_threads.specs.declared.making.Made.{Made as Came}
 use Rattle.partition_threads.specs.declared.making.Made.TheVariants as came
-use Rattle.partition_threads.specs.declared.making.Obstacle.{Obstacle}
-use Rattle.partition_threads.specs.declared.making.Obstacle.TheVariants as obstacle
+use Rattle.partition_threads.specs.declared.starting.Obstacle.{Obstacle}
 use Rattle.partition_threads.specs.declared.workplace.Workplace.{Workplace}
 use Rattle.partition_threads.specs.Making as threads
 use Rattle.partition_threads.specs.Steps.{IsRun}
-use Rattle.session_calls.specs.declared.calls.Unstarted.{Unstarted}
 use Rattle.session_calls.specs.declared.making.Made.{Made}
 use Rattle.session_calls.specs.declared.making.Made.TheVariants.{Ready, Started, Kept}
 use Rattle.session_calls.specs.declared.session.SessionPass.{SessionPass}
@@ -30,7 +28,7 @@ use Rattle.session_calls.specs.Sessions.{IsSessionOf, HasPassAt, pass_at}
 use Rattle.session_calls.proofs.Ending.{called_as}
 use Rattle.session_calls.proofs.Keeping.{with_pass, with_token}
 use Rattle.session_calls.proofs.Places.{same_some, none_some, set_same}
-use Rattle.session_calls.proofs.Refusing.{there, same_tokens}
+use Rattle.session_calls.proofs.Refusing.{met_queue, there, same_tokens, why_unstarted}
 use Rattle.session_calls.proofs.Starting.{named_is, unused_is, started}
 
 module _ {T P E O : Type 0} (token after : Token P) where
@@ -38,18 +36,9 @@ module _ {T P E O : Type 0} (token after : Token P) where
   pub told_queue : (c : Came T P E O) → threads.HasTold token after c → IsSameQueue token after
   told_queue (came.Done done) told = record { queue = ap (λ (t : Token P). t.queue) told; roster = ap (λ (t : Token P). t.roster) told }
   told_queue (came.Started awaited) told = record { queue = ap (λ (t : Token P). t.queue) told; roster = ap (λ (t : Token P). t.roster) told }
-  told_queue (came.Kept call obstacle.Busy) told = record { queue = ap (λ (t : Token P). t.queue) told; roster = ap (λ (t : Token P). t.roster) told }
-  told_queue (came.Kept call obstacle.Memory) told = record { queue = ap (λ (t : Token P). t.queue) told; roster = ap (λ (t : Token P). t.roster) told }
+  told_queue (came.Kept call why) told = met_queue token after why told
 
 module _ {T P E O : Type 0} (place : Workplace T P E O) (s : SessionPass T P E O) (is : IsSessionOf place s) (slot : ℕ) (token after : Token P) (read : token ≡ get_or s.tokens.items (slot % 4) token) where
-  -- why the session keeps a call
-  pub why_kept : (new : SessionPass T P E O) → new.tokens.items ≡ set s.tokens.items (slot % 4) after → (partition : ℕ) → slot ≡ partition → after ≡ after_full_look token → FoundFull s new partition
-  why_kept new written partition slot_is rose = record {
-    token = token;
-    was = subst (λ (n : ℕ). slice_get s.tokens.items (n % 4) ≡ Some token) slot_is (there place s is slot token after read);
-    rose = subst (λ (n : ℕ). new.tokens.items ≡ set s.tokens.items (n % 4) (after_full_look token)) slot_is (written ∙ ap (set s.tokens.items (slot % 4)) rose);
-  }
-
   module _ (away new : SessionPass T P E O) (tokens : away.tokens.items ≡ set s.tokens.items (slot % 4) after) (member : away.member ≡ s.member) (conn : away.conn ≡ s.conn) where
     -- the tokens are as before where the one at hand is
     pub unchanged : after ≡ token → away.tokens.items ≡ s.tokens.items
@@ -102,15 +91,15 @@ module _ {T P E O : Type 0} (key_of : E → Key) (call_of : ℕ → Request → 
       unused : IsNewKey key_of (Call request.id) has.terms.first.seen
       unused = subst (λ (q : Told E). IsNewKey key_of (Call request.id) q.seen) (sym has.first) (unused_is key_of fits s request may pass pass_there)
 
-    kept_as : (call again : BegunCall T P E O) (o : Obstacle) (why : Unstarted) (has : threads.HasMade key_of tells call_of (roster_of place.cells.items) pass s.member request now (came.Kept call o)) → again ≡ call → IsAsBefore away new
+    kept_as : (call again : BegunCall T P E O) (met why : Obstacle) (has : threads.HasMade key_of tells call_of (roster_of place.cells.items) pass s.member request now (came.Kept call met)) → again ≡ call → IsAsBefore away new
         → IsWhyUnstarted s new request.partition why → HasMade key_of call_of tells place s new request now (Kept again why)
-    kept_as call again o why has same before why_is = subst (λ k. HasMade key_of call_of tells place s new request now (Kept k why)) (sym same) (record {
+    kept_as call again met why has same before why_is = subst (λ k. HasMade key_of call_of tells place s new request now (Kept k why)) (sym same) (record {
       terms = has.terms;
-      terms_are = terms_are (came.Kept call o) has;
+      terms_are = terms_are (came.Kept call met) has;
       running = record {
         begun = has.came.begun;
-        named = subst (λ (id : CallId). has_name has.terms.first.names (Call id) ≡ true) (sym has.came.same_id) (named (came.Kept call o) has);
-        unused = subst (λ (id : CallId). IsNewKey key_of (Call id) has.terms.first.seen) (sym has.came.same_id) (unused (came.Kept call o) has);
+        named = subst (λ (id : CallId). has_name has.terms.first.names (Call id) ≡ true) (sym has.came.same_id) (named (came.Kept call met) has);
+        unused = subst (λ (id : CallId). IsNewKey key_of (Call id) has.terms.first.seen) (sym has.came.same_id) (unused (came.Kept call met) has);
       };
       same_member = has.came.same_member;
       same_id = has.came.same_id;
@@ -136,18 +125,14 @@ module _ {T P E O : Type 0} (key_of : E → Key) (call_of : ℕ → Request → 
     took (came.Started awaited) (Started begun) told has taken = subst (λ k. HasMade key_of call_of tells place s new request now (Started k)) (sym taken.1)
         (started key_of fits s request may pass pass_there place is call_of now key awaited (record { terms = has.terms; plan = has.plan; first = has.first; event = has.event; awaits = has.came }) new
         (is_away place s is slot token after read away new tokens member conn request.partition left told taken.0))
-    took (came.Kept call obstacle.Busy) (Kept again why) told has taken = kept_as call again obstacle.Busy why has taken.1 taken.0
-        (subst (IsWhyUnstarted s new request.partition) (sym taken.2) (why_kept place s is slot token after read new (taken.0.same_tokens ∙ tokens) request.partition slot_is told))
-    took (came.Kept call obstacle.Memory) (Kept again why) told has taken = kept_as call again obstacle.Memory why has taken.1 taken.0
-        (subst (IsWhyUnstarted s new request.partition) (sym taken.2) (taken.0.same_tokens ∙ unchanged place s is slot token after read away new tokens member conn told))
+    took (came.Kept call met) (Kept again why) told has taken = kept_as call again met why has taken.1 taken.0
+        (subst (IsWhyUnstarted s new request.partition) (sym taken.2) (why_unstarted place s is slot token after read new (taken.0.same_tokens ∙ tokens) request.partition slot_is met told))
     took (came.Done done) (Started k) told has taken = absurd taken
     took (came.Done done) (Kept k why) told has taken = absurd taken
     took (came.Started awaited) (Ready o) told has taken = absurd taken
     took (came.Started awaited) (Kept k why) told has taken = absurd taken
-    took (came.Kept call obstacle.Busy) (Ready o) told has taken = absurd taken
-    took (came.Kept call obstacle.Busy) (Started k) told has taken = absurd taken
-    took (came.Kept call obstacle.Memory) (Ready o) told has taken = absurd taken
-    took (came.Kept call obstacle.Memory) (Started k) told has taken = absurd taken
+    took (came.Kept call met) (Ready o) told has taken = absurd taken
+    took (came.Kept call met) (Started k) told has taken = absurd taken
 
     -- the session is one of the place still
     pub took_keeps : (c : Came T P E O) (made : Made T P E O) → threads.HasTold token after c → threads.HasMade key_of tells call_of (roster_of place.cells.items) pass s.member request now c
@@ -159,25 +144,20 @@ module _ {T P E O : Type 0} (key_of : E → Key) (call_of : ℕ → Request → 
     took_keeps (came.Started awaited) (Started begun) told has taken =
         still_session place s is slot token after read away new tokens (told_queue token after (came.Started awaited) told) request.partition None (λ q e. absurd (none_some q e))
         (taken.0.same_passes ∙ left) taken.0.same_tokens (taken.0.same_member ∙ member)
-    took_keeps (came.Kept call obstacle.Busy) (Kept again why) told has taken =
-        still_session place s is slot token after read away new tokens (told_queue token after (came.Kept call obstacle.Busy) told) request.partition None (λ q e. absurd (none_some q e))
-        (taken.0.same_passes ∙ left) taken.0.same_tokens (taken.0.same_member ∙ member)
-    took_keeps (came.Kept call obstacle.Memory) (Kept again why) told has taken =
-        still_session place s is slot token after read away new tokens (told_queue token after (came.Kept call obstacle.Memory) told) request.partition None (λ q e. absurd (none_some q e))
+    took_keeps (came.Kept call met) (Kept again why) told has taken =
+        still_session place s is slot token after read away new tokens (met_queue token after met told) request.partition None (λ q e. absurd (none_some q e))
         (taken.0.same_passes ∙ left) taken.0.same_tokens (taken.0.same_member ∙ member)
     took_keeps (came.Done done) (Started k) told has taken = absurd taken
     took_keeps (came.Done done) (Kept k why) told has taken = absurd taken
     took_keeps (came.Started awaited) (Ready o) told has taken = absurd taken
     took_keeps (came.Started awaited) (Kept k why) told has taken = absurd taken
-    took_keeps (came.Kept call obstacle.Busy) (Ready o) told has taken = absurd taken
-    took_keeps (came.Kept call obstacle.Busy) (Started k) told has taken = absurd taken
-    took_keeps (came.Kept call obstacle.Memory) (Ready o) told has taken = absurd taken
-    took_keeps (came.Kept call obstacle.Memory) (Started k) told has taken = absurd taken
+    took_keeps (came.Kept call met) (Ready o) told has taken = absurd taken
+    took_keeps (came.Kept call met) (Started k) told has taken = absurd taken
 
   -- a call that was gone on with
   module _ (terms : Terms P E) (call : BegunCall T P E O) (may : MayGoOn key_of call_of tells place terms s call) (slot : ℕ) (slot_is : slot ≡ call.partition) (read : token ≡ get_or s.tokens.items (slot % 4) token)
       (away new : SessionPass T P E O) (stay : away.passes.items ≡ s.passes.items) (tokens : away.tokens.items ≡ set s.tokens.items (slot % 4) after) (member : away.member ≡ s.member) (conn : away.conn ≡ s.conn) where
-    still_as : (again k : BegunCall T P E O) (why : Unstarted) (run : IsRun key_of tells call_of (roster_of place.cells.items) terms call.member call.partition call.id k None) → again ≡ k → IsAsBefore away new
+    still_as : (again k : BegunCall T P E O) (why : Obstacle) (run : IsRun key_of tells call_of (roster_of place.cells.items) terms call.member call.partition call.id k None) → again ≡ k → IsAsBefore away new
         → IsWhyUnstarted s new call.partition why → CameTo key_of call_of tells place terms call.id call.partition s new (Kept again why)
     still_as again k why run same before why_is = subst (λ z. CameTo key_of call_of tells place terms call.id call.partition s new (Kept z why)) (sym same) (record {
       running = record {
@@ -222,18 +202,14 @@ module _ {T P E O : Type 0} (key_of : E → Key) (call_of : ℕ → Request → 
         same_conn = taken.0.same_conn ∙ conn;
       };
     })
-    went (came.Kept k obstacle.Busy) (Kept again why) told has taken = still_as again k why has taken.1 taken.0
-        (subst (IsWhyUnstarted s new call.partition) (sym taken.2) (why_kept place s is slot token after read new (taken.0.same_tokens ∙ tokens) call.partition slot_is told))
-    went (came.Kept k obstacle.Memory) (Kept again why) told has taken = still_as again k why has taken.1 taken.0
-        (subst (IsWhyUnstarted s new call.partition) (sym taken.2) (taken.0.same_tokens ∙ unchanged place s is slot token after read away new tokens member conn told))
+    went (came.Kept k met) (Kept again why) told has taken = still_as again k why has taken.1 taken.0
+        (subst (IsWhyUnstarted s new call.partition) (sym taken.2) (why_unstarted place s is slot token after read new (taken.0.same_tokens ∙ tokens) call.partition slot_is met told))
     went (came.Done done) (Started k) told has taken = absurd taken
     went (came.Done done) (Kept k why) told has taken = absurd taken
     went (came.Started awaited) (Ready o) told has taken = absurd taken
     went (came.Started awaited) (Kept k why) told has taken = absurd taken
-    went (came.Kept k obstacle.Busy) (Ready o) told has taken = absurd taken
-    went (came.Kept k obstacle.Busy) (Started z) told has taken = absurd taken
-    went (came.Kept k obstacle.Memory) (Ready o) told has taken = absurd taken
-    went (came.Kept k obstacle.Memory) (Started z) told has taken = absurd taken
+    went (came.Kept k met) (Ready o) told has taken = absurd taken
+    went (came.Kept k met) (Started z) told has taken = absurd taken
 
     -- the session is one of the place still
     pub went_keeps : (c : Came T P E O) (made : Made T P E O) → threads.HasTold token after c → threads.CameTo key_of tells call_of (roster_of place.cells.items) terms call.member call.partition call.id c
@@ -245,17 +221,12 @@ module _ {T P E O : Type 0} (key_of : E → Key) (call_of : ℕ → Request → 
     went_keeps (came.Started awaited) (Started begun) told has taken =
         still_session place s is slot token after read away new tokens (told_queue token after (came.Started awaited) told) call.partition None (λ q e. absurd (none_some q e))
         (taken.0.same_passes ∙ (stay ∙ sym (set_same s.passes.items call.partition None may.away))) taken.0.same_tokens (taken.0.same_member ∙ member)
-    went_keeps (came.Kept k obstacle.Busy) (Kept again why) told has taken =
-        still_session place s is slot token after read away new tokens (told_queue token after (came.Kept k obstacle.Busy) told) call.partition None (λ q e. absurd (none_some q e))
-        (taken.0.same_passes ∙ (stay ∙ sym (set_same s.passes.items call.partition None may.away))) taken.0.same_tokens (taken.0.same_member ∙ member)
-    went_keeps (came.Kept k obstacle.Memory) (Kept again why) told has taken =
-        still_session place s is slot token after read away new tokens (told_queue token after (came.Kept k obstacle.Memory) told) call.partition None (λ q e. absurd (none_some q e))
+    went_keeps (came.Kept k met) (Kept again why) told has taken =
+        still_session place s is slot token after read away new tokens (met_queue token after met told) call.partition None (λ q e. absurd (none_some q e))
         (taken.0.same_passes ∙ (stay ∙ sym (set_same s.passes.items call.partition None may.away))) taken.0.same_tokens (taken.0.same_member ∙ member)
     went_keeps (came.Done done) (Started k) told has taken = absurd taken
     went_keeps (came.Done done) (Kept k why) told has taken = absurd taken
     went_keeps (came.Started awaited) (Ready o) told has taken = absurd taken
     went_keeps (came.Started awaited) (Kept k why) told has taken = absurd taken
-    went_keeps (came.Kept k obstacle.Busy) (Ready o) told has taken = absurd taken
-    went_keeps (came.Kept k obstacle.Busy) (Started z) told has taken = absurd taken
-    went_keeps (came.Kept k obstacle.Memory) (Ready o) told has taken = absurd taken
-    went_keeps (came.Kept k obstacle.Memory) (Started z) told has taken = absurd taken
+    went_keeps (came.Kept k met) (Ready o) told has taken = absurd taken
+    went_keeps (came.Kept k met) (Started z) told has taken = absurd taken

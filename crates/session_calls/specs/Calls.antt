@@ -11,14 +11,12 @@ use Rattle.job_queues.specs.Ends.{after_empty_look}
 use Rattle.job_queues.specs.Roster.{roster_of}
 use Rattle.job_queues.specs.Terms.{Terms}
 use Rattle.job_queues.specs.Tokens.{Token, after_full_look}
-use Rattle.partition_threads.specs.declared.starting.StartRefused.{StartRefused}
-use Rattle.partition_threads.specs.declared.starting.StartRefused.TheVariants.{Busy as QueueBusy, Memory as NoMemory}
+use Rattle.partition_threads.specs.declared.starting.Obstacle.{Obstacle}
+use Rattle.partition_threads.specs.declared.starting.Obstacle.TheVariants.{Busy, Memory}
 use Rattle.partition_threads.specs.declared.workplace.Workplace.{Workplace}
 use Rattle.partition_threads.specs.Starting.{IsAwaited}
 use Rattle.session_calls.specs.declared.calls.Finished.{Finished}
 use Rattle.session_calls.specs.declared.calls.Finished.TheVariants.{Ready, NotYet}
-use Rattle.session_calls.specs.declared.calls.Unstarted.{Unstarted}
-use Rattle.session_calls.specs.declared.calls.Unstarted.TheVariants.{Busy, Memory}
 use Rattle.session_calls.specs.declared.session.SessionPass.{SessionPass}
 use Rattle.session_calls.specs.declared.session.Started.{Started}
 use Rattle.session_calls.specs.Clause.{HasCalled}
@@ -58,21 +56,16 @@ module _ {T P E O : Type 0} where
     pub was : slice_get old.tokens.items (partition % 4) ≡ Some token
     pub rose : new.tokens.items ≡ slice_set old.tokens.items (partition % 4) (after_full_look token)
 
-  abbrev pub IsWhyUnstarted : SessionPass T P E O → SessionPass T P E O → ℕ → Unstarted → Type 0
+  abbrev pub IsWhyUnstarted : SessionPass T P E O → SessionPass T P E O → ℕ → Obstacle → Type 0
   IsWhyUnstarted old new partition Busy = FoundFull old new partition
   IsWhyUnstarted old new partition Memory = new.tokens.items ≡ old.tokens.items
 
   -- All passes are as before. Busy comes only where the worker's queue was full
-  pub record HasRefused (old new : SessionPass T P E O) (partition : ℕ) (why : Unstarted) : Type 0 where
+  pub record HasRefused (old new : SessionPass T P E O) (partition : ℕ) (why : Obstacle) : Type 0 where
     pub same_passes : new.passes.items ≡ old.passes.items
     pub same_member : new.member ≡ old.member
     pub same_conn : new.conn ≡ old.conn
     pub why_is : IsWhyUnstarted old new partition why
-
-  -- the pass of a call that wasn't started, and the cause
-  abbrev pub IsGivenBack : StartRefused T P E O → Told E → Unstarted → Type 0
-  IsGivenBack (QueueBusy back) pass why = (pass ≡ back) × (why ≡ Busy)
-  IsGivenBack (NoMemory back) pass why = (pass ≡ back) × (why ≡ Memory)
 
   -- The call is under way, and its pass is away
   pub record MayFinish (key_of : E → Key) (place : Workplace T P E O) (terms : Terms P E) (session : SessionPass T P E O) (started : Started T P E O) : Type 0 where

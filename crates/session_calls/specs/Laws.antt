@@ -7,10 +7,10 @@ use Rattle.hand_cell.specs.Told.{Told}
 use Rattle.job_queues.specs.declared.call.BegunCall.{BegunCall}
 use Rattle.job_queues.specs.Roster.{Roster, roster_of}
 use Rattle.job_queues.specs.Terms.{Terms}
+use Rattle.partition_threads.specs.declared.starting.Obstacle.{Obstacle}
 use Rattle.partition_threads.specs.declared.workplace.Workplace.{Workplace}
 use Rattle.session_calls.specs.declared.session.SessionPass.{SessionPass}
 use Rattle.session_calls.specs.declared.session.Started.{Started}
-use Rattle.session_calls.specs.declared.calls.Unstarted.{Unstarted}
 use Rattle.session_calls.specs.Calls.{HasStarted, MayFinish, IsSameCall, HasReturned, IsReady, IsNotYet}
 use Rattle.session_calls.specs.Clause.{HasCalled}
 use Rattle.session_calls.specs.Making.{AreTermsOf, MayGoOn, IsHandedOver, IsKeptStill, IsKept}
@@ -62,12 +62,12 @@ module _ {T P E O : Type 0} (key_of : E → Key) (call_of : ℕ → Request → 
 
   -- a session may go on with a call that it keeps
   abbrev pub KeptMayGoOn : Workplace T P E O → Type 0
-  KeptMayGoOn place = (before new : SessionPass T P E O) (request : Request) (now : ℕ) (call : BegunCall T P E O) (why : Unstarted)
+  KeptMayGoOn place = (before new : SessionPass T P E O) (request : Request) (now : ℕ) (call : BegunCall T P E O) (why : Obstacle)
       → (kept : IsKept key_of call_of tells place before new request now call why) → MayGoOn key_of call_of tells place kept.terms new call
 
   -- and again with one that it keeps still
   abbrev pub StillKeptMayGoOn : Workplace T P E O → Type 0
-  StillKeptMayGoOn place = (terms : Terms P E) (old new : SessionPass T P E O) (call again : BegunCall T P E O) (why : Unstarted)
+  StillKeptMayGoOn place = (terms : Terms P E) (old new : SessionPass T P E O) (call again : BegunCall T P E O) (why : Obstacle)
       → MayGoOn key_of call_of tells place terms old call → IsKeptStill key_of call_of tells place terms call.id call.partition old new again why
       → MayGoOn key_of call_of tells place terms new again
 

@@ -12,10 +12,8 @@ use Rattle.job_queues.specs.Roster.{roster_of}
 use Rattle.job_queues.specs.Terms.{Terms}
 use Rattle.partition_threads.specs.declared.making.Made.{Made as Came}
 use Rattle.partition_threads.specs.declared.making.Made.TheVariants as came
-use Rattle.partition_threads.specs.declared.making.Obstacle.TheVariants as obstacle
+use Rattle.partition_threads.specs.declared.starting.Obstacle.{Obstacle}
 use Rattle.partition_threads.specs.declared.workplace.Workplace.{Workplace}
-use Rattle.session_calls.specs.declared.calls.Unstarted.{Unstarted}
-use Rattle.session_calls.specs.declared.calls.Unstarted.TheVariants.{Busy, Memory}
 use Rattle.session_calls.specs.declared.making.Made.{Made}
 use Rattle.session_calls.specs.declared.making.Made.TheVariants.{Ready, Started, Kept}
 use Rattle.session_calls.specs.declared.session.SessionPass.{SessionPass}
@@ -35,8 +33,7 @@ module _ {T P E O : Type 0} where
   abbrev pub HasTakenIn : SessionPass T P E O → SessionPass T P E O → CallId → ℕ → Came T P E O → Made T P E O → Type 0
   HasTakenIn old new id partition (came.Done done) (Ready outcome) = HasPassAt old new partition (Some done.pass) × (outcome ≡ done.outcome)
   HasTakenIn old new id partition (came.Started awaited) (Started started) = IsAsBefore old new × (started ≡ record { id = id; partition = partition; awaited = awaited })
-  HasTakenIn old new id partition (came.Kept call obstacle.Busy) (Kept again why) = IsAsBefore old new × (again ≡ call) × (why ≡ Busy)
-  HasTakenIn old new id partition (came.Kept call obstacle.Memory) (Kept again why) = IsAsBefore old new × (again ≡ call) × (why ≡ Memory)
+  HasTakenIn old new id partition (came.Kept call met) (Kept again why) = IsAsBefore old new × (again ≡ call) × (why ≡ met)
   HasTakenIn old new id partition _ _ = ⊥
 
 module _ {T P E O : Type 0} (call_of : ℕ → Request → ℕ → E) (place : Workplace T P E O) where
@@ -67,7 +64,7 @@ module _ {T P E O : Type 0} (key_of : E → Key) (call_of : ℕ → Request → 
     pub same_session : IsAsBefore old new
 
   -- The session keeps the call still. Busy comes only where the worker's queue was full
-  pub record IsKeptStill (terms : Terms P E) (id : CallId) (partition : ℕ) (old new : SessionPass T P E O) (call : BegunCall T P E O) (why : Unstarted) : Type 0 where
+  pub record IsKeptStill (terms : Terms P E) (id : CallId) (partition : ℕ) (old new : SessionPass T P E O) (call : BegunCall T P E O) (why : Obstacle) : Type 0 where
     pub running : IsRunning terms call
     pub same_member : call.member ≡ old.member
     pub same_id : call.id ≡ id
@@ -87,7 +84,7 @@ module _ {T P E O : Type 0} (key_of : E → Key) (call_of : ℕ → Request → 
     pub returned : HasReturned key_of tells terms request.id request.partition old new outcome
 
   -- The call has run and is under way, and the session keeps it, with its pass. Busy comes only where the worker's queue was full
-  pub record IsKept (old new : SessionPass T P E O) (request : Request) (now : ℕ) (call : BegunCall T P E O) (why : Unstarted) : Type 0 where
+  pub record IsKept (old new : SessionPass T P E O) (request : Request) (now : ℕ) (call : BegunCall T P E O) (why : Obstacle) : Type 0 where
     pub terms : Terms P E
     pub terms_are : AreTermsOf call_of place old request now terms
     pub running : IsRunning terms call

@@ -2,26 +2,15 @@
 ghost use Rattle.std.specs.Prelude.{IfOk, IfErr};
 ghost use Rattle.job_queues.specs.Terms.{Terms};
 ghost use Rattle.session_calls.specs.Sessions.{IsSessionOf};
-ghost use Rattle.session_calls.specs.Calls.{MayCall, IsGivenBack, HasStarted, HasRefused, IsUnderWay, MayFinish, HasEnded};
+ghost use Rattle.session_calls.specs.Calls.{MayCall, HasStarted, HasRefused, IsUnderWay, MayFinish, HasEnded};
 
 use crate::session::{SessionPass, Started};
 use crate::slots::{put_pass, take_pass};
 use grid_base::{Moment, Request};
-use hand_cell::{LiveOutcome, Pass, Served};
-use partition_threads::{Awaited, StartRefused, THREADS, Workplace};
+use hand_cell::{LiveOutcome, Served};
+use partition_threads::{Awaited, Obstacle, THREADS, Workplace};
 use std::alloc::Global;
 use std::sync::Wait;
-use thiserror::Error;
-
-/// Why a call wasn't started.
-#[derive(Clone, Copy, Debug, PartialEq, Eq, Error)]
-pub enum Unstarted {
-    /// The worker's queue was full at a moment of the call.
-    #[error("the worker's queue was full")]
-    Busy,
-    #[error("there is no memory to start the call")]
-    Memory,
-}
 
 /// What a look for a call's outcome found.
 #[derive(Drop)]
@@ -44,7 +33,7 @@ impl<T: Served> SessionPass<T> {
         place: &Workplace<T>,
         request: Request,
         now: Moment,
-    ) -> Result<Started<T>, Unstarted>
+    ) -> Result<Started<T>, Obstacle>
         requires session { IsSessionOf place.now self.old }
         requires may { MayCall T.key_of T.fits self.old request }
         ensures started { IfOk result (λ started. HasStarted T.key_of T.call_of place.now self.old self.new request now started) }
@@ -64,9 +53,8 @@ impl<T: Served> SessionPass<T> {
                 awaited,
             }),
             Err(refused) => {
-                let (pass, why) = given_back(refused);
-                put_pass(&mut self.passes, slot, pass);
-                Err(why)
+                put_pass(&mut self.passes, slot, refused.pass);
+                Err(refused.why)
             }
         }
     }
@@ -103,15 +91,5 @@ impl<T: Served> SessionPass<T> {
                 awaited: Awaited { parcel, end },
             }),
         }
-    }
-}
-
-/// The pass of a call that wasn't started, and why it wasn't.
-pub(crate) fn given_back<T: Served>(refused: StartRefused<T>) -> (Pass<T>, Unstarted)
-    ensures { IsGivenBack refused result.0 result.1 }
-{
-    match refused {
-        StartRefused::Busy(pass) => (pass, Unstarted::Busy),
-        StartRefused::Memory(pass) => (pass, Unstarted::Memory),
     }
 }

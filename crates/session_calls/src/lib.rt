@@ -23,7 +23,7 @@ mod session;
 mod sharing;
 mod slots;
 
-pub use calls::{Finished, Unstarted};
+pub use calls::Finished;
 pub use laws::{
     every_call_ends_as_it_was_started, every_call_ends_on_its_terms,
     every_call_stands_after_those_learned_of, every_kept_call_may_be_gone_on_with,

@@ -6,7 +6,6 @@ ghost use Rattle.session_calls.specs.Calls.{MayCall, HasRefused};
 ghost use Rattle.session_calls.specs.Making.{HasMade, MayGoOn, CameTo, HasTakenIn};
 ghost use Rattle.session_calls.specs.Sessions.{IsSessionOf};
 
-use crate::calls::{Unstarted, given_back};
 use crate::session::{SessionPass, Started};
 use crate::slots::{put_pass, take_pass};
 use grid_base::{CallId, Moment, PartitionId, Request};
@@ -25,7 +24,7 @@ pub enum Made<T: Served> {
     Started(Started<T>),
     /// It has run, its outcome isn't known yet, and it couldn't be handed over. Nobody wakes the session for it: the session
     /// goes on with it by `SessionPass::go_on`, without sleeping before.
-    Kept(BegunCall<T>, Unstarted),
+    Kept(BegunCall<T>, Obstacle),
 }
 
 impl<T: Served> SessionPass<T> {
@@ -44,7 +43,7 @@ impl<T: Served> SessionPass<T> {
         gate: &G,
         request: Request,
         now: Moment,
-    ) -> Result<Made<T>, Unstarted>
+    ) -> Result<Made<T>, Obstacle>
     where
         T: Runs<N>,
         requires session { IsSessionOf place.now self.old }
@@ -63,9 +62,8 @@ impl<T: Served> SessionPass<T> {
         match place.make(rt, alloc, env, gate, token, pass, member, request, now) {
             Ok(came) => Ok(self.take_in(id, partition, came)),
             Err(refused) => {
-                let (pass, why) = given_back(refused);
-                put_pass(&mut self.passes, slot, pass);
-                Err(why)
+                put_pass(&mut self.passes, slot, refused.pass);
+                Err(refused.why)
             }
         }
     }
@@ -110,8 +108,7 @@ impl<T: Served> SessionPass<T> {
                 partition,
                 awaited,
             }),
-            Came::Kept(call, Obstacle::Busy) => Made::Kept(call, Unstarted::Busy),
-            Came::Kept(call, Obstacle::Memory) => Made::Kept(call, Unstarted::Memory),
+            Came::Kept(call, why) => Made::Kept(call, why),
         }
     }
 }

@@ -1,7 +1,7 @@
 use Rattle.std.proofs.Common.{◌≡◌, ℕ, ◌+◌, ◌*◌, ◌%◌, ◌<◌, Some, None, slice_get, set, length, vec_len, subst, refl, arith}
 use Rattle.partition_threads.specs.Workplaces.{IsTokenAt}
 use Rattle.session_calls.proofs.Places.{put_back, still_within}
-use Rattle.session_calls.proofs.Refusing.{there, same_pass, refused, still_session}
+use Rattle.session_calls.proofs.Refusing.{there, refused, still_session}
 use Rattle.session_calls.proofs.Taking.{took, took_keeps}
 use Rattle.session_calls.proofs.session.SessionPass.make.Goals as goal
 
@@ -60,24 +60,14 @@ returns-in-Ok-clause-kept g c =
 pub returns-in-Err-clause-refused : goal.returns-in-Err-clause-refused
 returns-in-Err-clause-refused g c =
     let s = c.args.self.now in
-    let pass = c.take_pass-pass.result in
-    let back = c.given_back-pass.result.0 in
-    let why = c.given_back-pass.result.1 in
-    let token = c.index_mut-token.result.now in
-    let after = c.make.new.token in
-    let same = same_pass pass back token after c.in-Err.refused why c.in-Err.ensures.refused c.given_back-pass.ensures in
-    let passes = put_back s.passes.items c.take_pass-pass.new.passes.items c.put_pass.new.passes.items c.from-slot.result pass back c.take_pass-pass.ensures.taken c.take_pass-pass.ensures.left same c.put_pass.ensures in
-    refused c.args.place.now s c.requires.session c.from-slot.result token after c.index_mut-token.ensures.value _ refl pass back c.in-Err.refused c.in-Err.ensures.refused passes refl
-    c.args.request.partition c.from-slot.ensures why c.given_back-pass.ensures refl
+    let unstarted = c.in-Err.ensures.refused in
+    let passes = put_back s.passes.items c.take_pass-pass.new.passes.items c.put_pass.new.passes.items c.from-slot.result c.take_pass-pass.result c.in-Err.refused.pass c.take_pass-pass.ensures.taken c.take_pass-pass.ensures.left unstarted.0 c.put_pass.ensures in
+    refused c.args.place.now s c.requires.session c.from-slot.result c.index_mut-token.result.now c.make.new.token c.index_mut-token.ensures.value _ refl c.in-Err.refused.why unstarted.1 passes refl
+    c.args.request.partition c.from-slot.ensures refl
 
 pub returns-in-Err-clause-kept : goal.returns-in-Err-clause-kept
 returns-in-Err-clause-kept g c =
     let s = c.args.self.now in
-    let pass = c.take_pass-pass.result in
-    let back = c.given_back-pass.result.0 in
-    let why = c.given_back-pass.result.1 in
-    let token = c.index_mut-token.result.now in
-    let after = c.make.new.token in
-    let same = same_pass pass back token after c.in-Err.refused why c.in-Err.ensures.refused c.given_back-pass.ensures in
-    let passes = put_back s.passes.items c.take_pass-pass.new.passes.items c.put_pass.new.passes.items c.from-slot.result pass back c.take_pass-pass.ensures.taken c.take_pass-pass.ensures.left same c.put_pass.ensures in
-    still_session c.args.place.now s c.requires.session c.from-slot.result token after c.index_mut-token.ensures.value _ refl pass back c.in-Err.refused c.in-Err.ensures.refused passes refl
+    let unstarted = c.in-Err.ensures.refused in
+    let passes = put_back s.passes.items c.take_pass-pass.new.passes.items c.put_pass.new.passes.items c.from-slot.result c.take_pass-pass.result c.in-Err.refused.pass c.take_pass-pass.ensures.taken c.take_pass-pass.ensures.left unstarted.0 c.put_pass.ensures in
+    still_session c.args.place.now s c.requires.session c.from-slot.result c.index_mut-token.result.now c.make.new.token c.index_mut-token.ensures.value _ refl c.in-Err.refused.why unstarted.1 passes refl
