@@ -11,7 +11,7 @@ use Rattle.hand_cell.specs.Told.{Told}
 use Rattle.job_queues.specs.declared.call.BegunCall.{BegunCall}
 use Rattle.job_queues.specs.Roster.{roster_of}
 use Rattle.job_queues.specs.Terms.{Terms}
-use Rattle.job_queues.specs.Tokens.{Token, IsSameQueue, after_full_look}
+use Rattle.job_queues.specs.Tokens.{Token, IsSameQueue}
 use Rattle.partition_threads.specs.declared.making.Made.{Made as Came}
 use Rattle.partition_threads.specs.declared.making.Made.TheVariants as came
 use Rattle.partition_threads.specs.declared.starting.Obstacle.{Obstacle}
@@ -21,7 +21,7 @@ use Rattle.partition_threads.specs.Steps.{IsRun}
 use Rattle.session_calls.specs.declared.making.Made.{Made}
 use Rattle.session_calls.specs.declared.making.Made.TheVariants.{Ready, Started, Kept}
 use Rattle.session_calls.specs.declared.session.SessionPass.{SessionPass}
-use Rattle.session_calls.specs.Calls.{MayCall, FoundFull, IsWhyUnstarted}
+use Rattle.session_calls.specs.Calls.{MayCall, IsWhyUnstarted}
 use Rattle.session_calls.specs.Clause.{HasCalled}
 use Rattle.session_calls.specs.Making.{IsAsBefore, HasTakenIn, AreTermsOf, MayGoOn, CameTo, HasMade}
 use Rattle.session_calls.specs.Sessions.{IsSessionOf, HasPassAt, pass_at}
