@@ -1,6 +1,5 @@
 -- What a server is made of before anything has happened.
 use Rattle.std.specs.Prelude.{◌≡◌, ℕ, ◌*◌, ◌≤◌, All, List, [], length, Some, slice_get}
-use Rattle.std.specs.Vec.{vec_capacity}
 use Rattle.entry_processors.specs.declared.form.Form.{Form}
 use Rattle.grid_base.specs.declared.calls.Request.{Request}
 use Rattle.hand_cell.specs.Told.{Told}
@@ -16,6 +15,7 @@ use Rattle.live_grid.specs.Grids.{AreCells, IsGridPassOf, place_of}
 use Rattle.live_control.specs.Running.{MayServe as MayControl}
 use Rattle.live_server.specs.declared.connections.Connections.{Connections}
 use Rattle.live_server.specs.declared.connections.TheConstants.{ROOM}
+use Rattle.slab.specs.Slab.{slab_len}
 use Rattle.serve_options.specs.declared.options.ServeOptions.{ServeOptions}
 use Rattle.grid_server.specs.declared.setting.Setting.{Setting}
 use Rattle.grid_server.specs.declared.setting.Worker.{Worker}
@@ -35,8 +35,8 @@ module _ {F K : Type 0} where
   -- No connection has come. The passes have every connection's number for a name and have seen nothing, and there are tokens of each member's workers
   pub record IsUnused (grid : LiveGrid) (members : ℕ) (connections : Connections LiveWorld F K GridPlan (Event Request) Happened) : Type 0 where
     pub none_came : connections.accepted ≡ 0
-    pub no_clients : connections.clients.items ≡ []
-    pub room : ROOM ≤ vec_capacity connections.clients
+    pub no_clients : slab_len connections.clients ≡ 0
+    pub room : ROOM ≤ connections.clients.capacity
     pub of_grid : IsGridPassOf grid (record { passes = connections.passes; tokens = connections.tokens })
     pub named : (number : ℕ) → HaveNumber number connections.passes.items
     pub unseen : AreNew connections.passes.items

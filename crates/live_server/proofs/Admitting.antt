@@ -1,8 +1,7 @@
 -- How a connection is let in.
 use Rattle.std.proofs.Common.{◌≡◌, ◌≢◌, ◌⊎◌, inl, inr, ⊎_elim, ℕ, ◌+◌, ◌<◌, ◌≤◌, true, List, [], ◌∷◌, ◌++◌, length, map, get_or, All, Option, Some, None, IfSome, slice_get, refl, sym, ap, ◌∙◌, subst, append-nil, arith}
-use Rattle.std.specs.Vec.{vec_capacity}
 use Rattle.std.proofs.lemmas.List.{length-append, length-map}
-use Rattle.std.proofs.lemmas.List.Elements.{All-push, All-weaker}
+use Rattle.std.proofs.lemmas.List.Elements.{All-push}
 use Rattle.grid_base.specs.declared.calls.Request.{Request}
 use Rattle.grid_edge.specs.Doors.{Arrival, Return, Book, after_arrival, after_return, IsOut}
 use Rattle.grid_edge.specs.MemoryDoors.{Telling, connection_of}
@@ -20,6 +19,7 @@ use Rattle.session_calls.specs.declared.session.SessionPass.{SessionPass}
 use Rattle.session_calls.specs.Openings.{IsOpened}
 use Rattle.session_calls.specs.Passes.{ArePassesOf, HaveNumber, giving_up, given as given_names}
 use Rattle.session_core.specs.Items.{items_of}
+use Rattle.slab.specs.Slab.{Slab, get, Updates}
 use Rattle.live_session.specs.declared.connection.Asked.{Asked}
 use Rattle.live_session.specs.Connections.{HasSeen, AreBelow, IsFresh, IsServedTo}
 use Rattle.live_session.specs.Next.{noted_call}
@@ -33,8 +33,9 @@ use Rattle.live_server.specs.declared.connections.Connections.{Connections}
 use Rattle.live_server.specs.declared.connections.TheConstants.{ROOM}
 use Rattle.live_server.specs.Serving.{times_returned, SawNone, WasServed}
 use Rattle.live_server.specs.Clients.{IsServedSince}
-use Rattle.live_server.specs.Standing.{times_served, IsServing}
+use Rattle.live_server.specs.Standing.{OfEach, IsUnserved, IsServedBy, IsServing}
 use Rattle.live_server.specs.Order.{Mark, IsMarked, KeepsMarks, AreMarks, seen_of}
+use Rattle.live_server.proofs.Keyed.{of_each, came_was_unserved, came_unserved, came_served, others_served}
 use Rattle.live_server.proofs.Marks.{keeps_none, marks_seen, rested_on}
 use Rattle.live_server.proofs.Named.{still_named, named_one}
 use Rattle.live_server.proofs.Passing.{HaveGone, gave_up, get_some, get_map, still_unseen, still_was_served, seen_by, seen_there, seen_case, get_mapped}
@@ -53,10 +54,10 @@ stays key_of passes = record {
 module _ {T P E O F K : Type 0} (key_of : E → Key) (tells : P → List E → E → LiveOutcome → Type 0) (call_of : ℕ → Request → ℕ → E) (place : Workplace T P E O) (given : List ℕ) (telling : Telling F K)
     (old : Connections T F K P E O) (book : Book) (serving : IsServing key_of tells call_of place given telling old book) where
   -- a number that was given back isn't served any more
-  pub returned_rests : (k : ℕ) (d : Return) → k < length book.returns → times_served (get_or book.returns k d).number old.clients.items ≡ 0
+  pub returned_rests : (k : ℕ) (d : Return) → k < length book.returns → IsUnserved (get_or book.returns k d).number old.clients
   returned_rests k d within = ⊎_elim
-      (λ (less : number < length book.arrivals). let e = serving.once number less in omega (arith, there, e))
-      (λ (more : length book.arrivals ≤ number). let e = serving.no_more number more in omega (arith, there, e))
+      (λ (less : number < length book.arrivals). ⊎_elim (λ served. let none = served.1 in absurd (omega (arith, there, none))) (λ back. back.0) (serving.once number less))
+      (λ (more : length book.arrivals ≤ number). (serving.no_more number more).0)
       (less_or_more number (length book.arrivals))
     where
       number : ℕ
@@ -69,15 +70,15 @@ module _ {T P E O F K : Type 0} (key_of : E → Key) (tells : P → List E → E
       less_or_more n m = grind arith
 
   -- what was given back stays as it was served, where the passes have seen more, and more was done for others that are served
-  pub given_back_on : (journal : List Entry) → ((number : ℕ) → times_served number old.clients.items ≡ 0 → own_of number journal ≡ own_of number old.journal)
+  pub given_back_on : (journal : List Entry) → ((number : ℕ) → IsUnserved number old.clients → own_of number journal ≡ own_of number old.journal)
       → (passes : List (Told E)) → HaveGone key_of old.passes.items passes → (later : List Arrival) → All (WasServed key_of tells call_of place given journal passes (book.arrivals ++ later)) book.returns
   given_back_on journal same passes gone later k d within =
       still_was_served key_of tells call_of place given old.journal journal old.passes.items passes gone book.arrivals later (get_or book.returns k d)
       (serving.named (get_or book.returns k d).number (returned_rests k d within)) (same (get_or book.returns k d).number (returned_rests k d within)) (serving.given_back k d within)
 
   -- nobody is served yet by the next number
-  pub next_rests : (times_served (length book.arrivals) old.clients.items ≡ 0) × (times_returned (length book.arrivals) book.returns ≡ 0)
-  next_rests = let e = serving.no_more (length book.arrivals) (omega arith) in (omega (arith, e), omega (arith, e))
+  pub next_rests : IsUnserved (length book.arrivals) old.clients × (times_returned (length book.arrivals) book.returns ≡ 0)
+  next_rests = serving.no_more (length book.arrivals) (omega arith)
 
 module _ {T P E O F K : Type 0} (key_of : E → Key) (tells : P → List E → E → LiveOutcome → Type 0) (call_of : ℕ → Request → ℕ → E) (place : Workplace T P E O) (given : List ℕ) (telling : Telling F K)
     (old : Connections T F K P E O) (book : Book) (serving : IsServing key_of tells call_of place given telling old book) (member : ℕ) (from : F) (to : K) where
@@ -158,40 +159,46 @@ module _ {T P E O F K : Type 0} (key_of : E → Key) (tells : P → List E → E
     }
 
   -- A connection came, and is served
-  admitted : (new : Connections T F K P E O) (client : Client T F K P E O) → client.number ≡ length book.arrivals → IsServedSince key_of tells call_of place given telling (book.arrivals ++ arrival ∷ []) serving.marks client → new.journal ≡ old.journal
-      → new.passes.items ≡ map (giving_up (One (length book.arrivals))) old.passes.items → new.tokens.items ≡ old.tokens.items → new.clients.items ≡ old.clients.items ++ client ∷ []
-      → vec_capacity new.clients ≡ vec_capacity old.clients → new.accepted ≡ old.accepted + 1 → ArePassesOf place.cells.items new.passes.items
+  admitted : (new : Connections T F K P E O) (key : ℕ) (client : Client T F K P E O) → client.number ≡ length book.arrivals → IsServedSince key_of tells call_of place given telling (book.arrivals ++ arrival ∷ []) serving.marks client → new.journal ≡ old.journal
+      → new.passes.items ≡ map (giving_up (One (length book.arrivals))) old.passes.items → new.tokens.items ≡ old.tokens.items → get old.clients key ≡ None → Updates old.clients new.clients key (Some client)
+      → new.clients.capacity ≡ old.clients.capacity → new.accepted ≡ old.accepted + 1 → ArePassesOf place.cells.items new.passes.items
       → IsServing key_of tells call_of place given telling new (after_arrival book (record { member = member; at = connection_of telling from to }))
-  admitted new client its_number served journal_is passes_are tokens_are clients_are room accepted of_cells = record {
+  admitted new key client its_number served journal_is passes_are tokens_are vacant updates room accepted of_cells = record {
     numbered = accepted ∙ (ap (λ (n : ℕ). n + 1) serving.numbered ∙ sym more_arrivals);
     room = subst (λ (n : ℕ). ROOM ≤ n) (sym room) serving.room;
     passes = of_cells;
     tokens = subst (AreTokensAt place) (sym tokens_are) serving.tokens;
     members = λ m opened. let many = serving.members m opened in let same : length new.tokens.items ≡ length old.tokens.items = ap (λ l. length l) tokens_are in omega (arith, many, same);
     once = λ number less. ⊎_elim
-        (λ (same : length book.arrivals ≡ number). let c = times_now number in let one = one_same client.number number (its_number ∙ same) in let e = serving.no_more number (omega (arith, same)) in omega (arith, c, one, e))
-        (λ (other : length book.arrivals ≢ number). let c = times_now number in let zero = one_other client.number number (λ e. other (sym its_number ∙ e)) in let m = more_arrivals in let e = serving.once number (omega (arith, less, other, m)) in omega (arith, c, zero, e))
+        (λ (same : length book.arrivals ≡ number). let none = serving.no_more number (omega (arith, same)) in
+        inl (came_served old.clients new.clients key client vacant updates number (its_number ∙ same) none.0, none.1))
+        (λ (other : length book.arrivals ≢ number). ⊎_elim
+        (λ one. inl (others_served old.clients new.clients key client vacant updates number (another number other) one.0, one.1))
+        (λ back. inr (came_unserved old.clients new.clients key client vacant updates number (another number other) back.0, back.1))
+        (serving.once number (let m = more_arrivals in omega (arith, less, other, m))))
         (same_or_other (length book.arrivals) number);
-    no_more = λ number more. let m = more_arrivals in let c = times_now number in let zero = one_other client.number number (λ e. let s : length book.arrivals ≡ number = sym its_number ∙ e in omega (arith, more, s, m)) in let e = serving.no_more number (omega (arith, more, m)) in omega (arith, c, zero, e);
+    no_more = λ number more. let m = more_arrivals in let none = serving.no_more number (omega (arith, more, m)) in
+        (came_unserved old.clients new.clients key client vacant updates number (another number (λ same. omega (arith, more, same, m))) none.0, none.1);
     marks = serving.marks;
     are_marks = subst (λ (n : List Entry). AreMarks key_of serving.marks n new.passes.items) (sym journal_is) (marks_seen key_of serving.marks old.journal old.passes.items new.passes.items gone serving.are_marks);
-    clients = subst (λ l. All (IsServedSince key_of tells call_of place given telling (book.arrivals ++ arrival ∷ []) serving.marks) l) (sym clients_are)
-        (All-push (IsServedSince key_of tells call_of place given telling (book.arrivals ++ arrival ∷ []) serving.marks) old.clients.items client
-        (All-weaker (IsServedSince key_of tells call_of place given telling book.arrivals serving.marks) (IsServedSince key_of tells call_of place given telling (book.arrivals ++ arrival ∷ []) serving.marks)
-        others_came old.clients.items serving.clients) served);
+    clients = of_each old.clients new.clients key (Some client) updates (IsServedSince key_of tells call_of place given telling (book.arrivals ++ arrival ∷ []) serving.marks)
+        (λ its e. subst (IsServedSince key_of tells call_of place given telling (book.arrivals ++ arrival ∷ []) serving.marks) (same_some client its e) served)
+        (λ k its other there. others_came its (serving.clients k its there));
     given_back = given_back_on key_of tells call_of place given telling old book serving new.journal (λ number none. ap (own_of number) journal_is) new.passes.items gone (arrival ∷ []);
-    named = λ number none. let c = times_now number in
-        let other : ¬ (number ≡ length book.arrivals) = λ same. let one = one_same client.number number (its_number ∙ sym same) in omega (arith, c, one, none) in
-        subst (HaveNumber number) (sym passes_are) (still_have number other (serving.named number (omega (arith, c, none))));
-    unseen = λ number more. still_unseen key_of number old.passes.items new.passes.items gone
-        (serving.named number (let m = more_arrivals in let e = serving.no_more number (omega (arith, more, m)) in omega (arith, e))) (serving.unseen number (let m = more_arrivals in omega (arith, more, m)));
+    named = λ number none. subst (HaveNumber number) (sym passes_are)
+        (still_have number (λ same. none key client updates.changed (its_number ∙ sym same)) (serving.named number (before number none)));
+    unseen = λ number more. let m = more_arrivals in still_unseen key_of number old.passes.items new.passes.items gone
+        (serving.named number (serving.no_more number (omega (arith, more, m))).0) (serving.unseen number (omega (arith, more, m)));
     undone = λ number more. ap (own_of number) journal_is ∙ serving.undone number (let m = more_arrivals in omega (arith, more, m));
-    marked = λ number none. let c = times_now number in subst (λ (l : List Mark). KeepsMarks key_of l number (seen_of new.passes.items)) (append-nil serving.marks)
-        (rested_on key_of serving.marks [] number old.passes.items new.passes.items gone (serving.named number (omega (arith, c, none))) (serving.marked number (omega (arith, c, none))));
+    marked = λ number none. subst (λ (l : List Mark). KeepsMarks key_of l number (seen_of new.passes.items)) (append-nil serving.marks)
+        (rested_on key_of serving.marks [] number old.passes.items new.passes.items gone (serving.named number (before number none)) (serving.marked number (before number none)));
   }
     where
-      times_now : (number : ℕ) → times_served number new.clients.items ≡ times_served number old.clients.items + one_if client.number number
-      times_now number = ap (times_served number) clients_are ∙ times_push (λ (c : Client T F K P E O). c.number) number old.clients.items client
+      before : (number : ℕ) → IsUnserved number new.clients → IsUnserved number old.clients
+      before = came_was_unserved old.clients new.clients key client vacant updates
+
+      another : (number : ℕ) → length book.arrivals ≢ number → client.number ≢ number
+      another number other e = other (sym its_number ∙ e)
 
       gone : HaveGone key_of old.passes.items new.passes.items
       gone = subst (HaveGone key_of old.passes.items) (sym passes_are) (gave_up key_of (One (length book.arrivals)) old.passes.items)
@@ -207,34 +214,38 @@ module _ {T P E O F K : Type 0} (key_of : E → Key) (tells : P → List E → E
       (after_return (after_arrival book (record { member = member; at = connection_of telling from to })) (record { number = length book.arrivals; at = connection_of telling from to; memory = true }))
   refused new journal_is passes_are tokens_are clients_are accepted = record {
     numbered = accepted ∙ (ap (λ (n : ℕ). n + 1) serving.numbered ∙ sym more_arrivals);
-    room = subst (λ (n : ℕ). ROOM ≤ n) (sym (ap (λ v. vec_capacity v) clients_are)) serving.room;
+    room = subst (λ (n : ℕ). ROOM ≤ n) (sym (ap (λ (v : Slab (Client T F K P E O)). v.capacity) clients_are)) serving.room;
     passes = subst (ArePassesOf place.cells.items) (sym passes_are) serving.passes;
     tokens = subst (AreTokensAt place) (sym tokens_are) serving.tokens;
     members = λ m opened. let many = serving.members m opened in let same : length new.tokens.items ≡ length old.tokens.items = ap (λ l. length l) tokens_are in omega (arith, many, same);
     once = λ number less. ⊎_elim
-        (λ (same : length book.arrivals ≡ number). let c = times_now number in let d = times_back number in let one = one_same (length book.arrivals) number same in let e = serving.no_more number (omega (arith, same)) in omega (arith, c, d, one, e))
-        (λ (other : length book.arrivals ≢ number). let c = times_now number in let d = times_back number in let zero = one_other (length book.arrivals) number other in let m = more_arrivals in let e = serving.once number (omega (arith, less, other, m)) in omega (arith, c, d, zero, e))
+        (λ (same : length book.arrivals ≡ number). let d = times_back number in let one = one_same (length book.arrivals) number same in let none = serving.no_more number (omega (arith, same)) in let z = none.1 in
+        inr (after number none.0, omega (arith, d, one, z)))
+        (λ (other : length book.arrivals ≢ number). let d = times_back number in let zero = one_other (length book.arrivals) number other in ⊎_elim
+        (λ served. let z = served.1 in inl (subst (IsServedBy number) (sym clients_are) served.0, omega (arith, d, zero, z)))
+        (λ returned. let z = returned.1 in inr (after number returned.0, omega (arith, d, zero, z)))
+        (serving.once number (let m = more_arrivals in omega (arith, less, other, m))))
         (same_or_other (length book.arrivals) number);
-    no_more = λ number more. let m = more_arrivals in let c = times_now number in let d = times_back number in let zero = one_other (length book.arrivals) number (λ same. omega (arith, more, same, m)) in let e = serving.no_more number (omega (arith, more, m)) in omega (arith, c, d, zero, e);
+    no_more = λ number more. let m = more_arrivals in let d = times_back number in let zero = one_other (length book.arrivals) number (λ same. omega (arith, more, same, m)) in
+        let none = serving.no_more number (omega (arith, more, m)) in let z = none.1 in (after number none.0, omega (arith, d, zero, z));
     marks = serving.marks;
     are_marks = subst (λ (n : List Entry). AreMarks key_of serving.marks n new.passes.items) (sym journal_is) (subst (AreMarks key_of serving.marks old.journal) (sym passes_are) serving.are_marks);
-    clients = subst (λ l. All (IsServedSince key_of tells call_of place given telling (book.arrivals ++ arrival ∷ []) serving.marks) l) (sym (ap (λ v. v.items) clients_are))
-        (All-weaker (IsServedSince key_of tells call_of place given telling book.arrivals serving.marks) (IsServedSince key_of tells call_of place given telling (book.arrivals ++ arrival ∷ []) serving.marks)
-        others_came old.clients.items serving.clients);
+    clients = subst (OfEach (IsServedSince key_of tells call_of place given telling (book.arrivals ++ arrival ∷ []) serving.marks)) (sym clients_are)
+        (λ key client there. others_came client (serving.clients key client there));
     given_back = subst (λ l. All (WasServed key_of tells call_of place given new.journal l (book.arrivals ++ arrival ∷ [])) (book.returns ++ back ∷ [])) (sym passes_are)
         (All-push (WasServed key_of tells call_of place given new.journal old.passes.items (book.arrivals ++ arrival ∷ [])) book.returns back
         (given_back_on key_of tells call_of place given telling old book serving new.journal (λ number none. ap (own_of number) journal_is) old.passes.items (stays key_of old.passes.items) (arrival ∷ [])) at_once);
-    named = λ number none. subst (HaveNumber number) (sym passes_are) (serving.named number (sym (times_now number) ∙ none));
+    named = λ number none. subst (HaveNumber number) (sym passes_are) (serving.named number (subst (IsUnserved number) clients_are none));
     unseen = λ number more. subst (SawNone key_of number) (sym passes_are) (serving.unseen number (let m = more_arrivals in omega (arith, more, m)));
     undone = λ number more. ap (own_of number) journal_is ∙ serving.undone number (let m = more_arrivals in omega (arith, more, m));
-    marked = λ number none. subst (λ l. KeepsMarks key_of serving.marks number (seen_of l)) (sym passes_are) (serving.marked number (sym (times_now number) ∙ none));
+    marked = λ number none. subst (λ l. KeepsMarks key_of serving.marks number (seen_of l)) (sym passes_are) (serving.marked number (subst (IsUnserved number) clients_are none));
   }
     where
       back : Return
       back = record { number = length book.arrivals; at = connection_of telling from to; memory = true }
 
-      times_now : (number : ℕ) → times_served number new.clients.items ≡ times_served number old.clients.items
-      times_now number = ap (λ v. times_served number v.items) clients_are
+      after : (number : ℕ) → IsUnserved number old.clients → IsUnserved number new.clients
+      after number = subst (IsUnserved number) (sym clients_are)
 
       times_back : (number : ℕ) → times_returned number (book.returns ++ back ∷ []) ≡ times_returned number book.returns + one_if (length book.arrivals) number
       times_back number = times_push (λ (each : Return). each.number) number book.returns back
@@ -278,13 +289,13 @@ module _ {T P E O F K : Type 0} (key_of : E → Key) (tells : P → List E → E
   -- So it is at the books that tell of it
 
   module _ (now : Book) (now_is : now ≡ after_arrival book (record { member = member; at = connection_of telling from to })) (number : ℕ) (number_is : number ≡ length book.arrivals) where
-    pub came_in : (new : Connections T F K P E O) (client : Client T F K P E O) → client.number ≡ number → IsServedSince key_of tells call_of place given telling (book.arrivals ++ arrival ∷ []) serving.marks client
-        → new.journal ≡ old.journal → new.passes.items ≡ map (giving_up (One number)) old.passes.items → new.tokens.items ≡ old.tokens.items → new.clients.items ≡ old.clients.items ++ client ∷ []
-        → vec_capacity new.clients ≡ vec_capacity old.clients → new.accepted ≡ old.accepted + 1 → ArePassesOf place.cells.items new.passes.items
+    pub came_in : (new : Connections T F K P E O) (key : ℕ) (client : Client T F K P E O) → client.number ≡ number → IsServedSince key_of tells call_of place given telling (book.arrivals ++ arrival ∷ []) serving.marks client
+        → new.journal ≡ old.journal → new.passes.items ≡ map (giving_up (One number)) old.passes.items → new.tokens.items ≡ old.tokens.items → get old.clients key ≡ None → Updates old.clients new.clients key (Some client)
+        → new.clients.capacity ≡ old.clients.capacity → new.accepted ≡ old.accepted + 1 → ArePassesOf place.cells.items new.passes.items
         → IsServing key_of tells call_of place given telling new now
-    came_in new client its_number served journal_is passes_are tokens_are clients_are room accepted of_cells =
+    came_in new key client its_number served journal_is passes_are tokens_are vacant updates room accepted of_cells =
         subst (λ (b : Book). IsServing key_of tells call_of place given telling new b) (sym now_is)
-        (admitted new client (its_number ∙ number_is) served journal_is (passes_are ∙ ap (λ (n : ℕ). map (giving_up (One n)) old.passes.items) number_is) tokens_are clients_are room accepted of_cells)
+        (admitted new key client (its_number ∙ number_is) served journal_is (passes_are ∙ ap (λ (n : ℕ). map (giving_up (One n)) old.passes.items) number_is) tokens_are vacant updates room accepted of_cells)
 
     pub turned_away : (last : Book) → last ≡ after_return now (record { number = number; at = connection_of telling from to; memory = true })
         → (new : Connections T F K P E O) → new.journal ≡ old.journal → new.passes.items ≡ old.passes.items → new.tokens.items ≡ old.tokens.items → new.clients ≡ old.clients → new.accepted ≡ old.accepted + 1

@@ -225,7 +225,7 @@ module _ {T P E O F K : Type 0} (key_of : E → Key) (tells : P → List E → E
     (arrivals : List Arrival) (marks : List Mark) where
   -- a client that had no turn yet
   pub gone_not : (client : Client T F K P E O) (known : List (Told E)) (journal : List Entry) → AreMarks key_of marks journal known → IsServedSince key_of tells call_of place first_given telling arrivals marks client
-      → HasGoneOn key_of tells call_of place first_given first_given telling (Going false) arrivals marks client known known journal
+      → HasGoneOn key_of tells call_of place first_given first_given telling (Going 0) arrivals marks client known known journal
   gone_not client known journal are served = record {
     gave = ([], sym (append-nil first_given));
     more = [];
@@ -235,13 +235,13 @@ module _ {T P E O F K : Type 0} (key_of : E → Key) (tells : P → List E → E
     progress_is = still_marked key_of tells call_of place first_given telling arrivals marks [] client refl served;
   }
 
-  -- whether anything moved says no more
-  pub going_by : (given : List ℕ) (moved : Bool) (client : Client T F K P E O) (known known_now : List (Told E)) (journal : List Entry)
-      → HasGoneOn key_of tells call_of place first_given given telling (Going false) arrivals marks client known known_now journal → HasGoneOn key_of tells call_of place first_given given telling (Going moved) arrivals marks client known known_now journal
-  going_by given moved client known known_now journal gone = record { gave = gone.gave; more = gone.more; own = gone.own; are_marks = gone.are_marks; learned = gone.learned; progress_is = gone.progress_is }
+  -- how many turns moved says no more
+  pub going_by : (given : List ℕ) (moves : ℕ) (client : Client T F K P E O) (known known_now : List (Told E)) (journal : List Entry)
+      → HasGoneOn key_of tells call_of place first_given given telling (Going 0) arrivals marks client known known_now journal → HasGoneOn key_of tells call_of place first_given given telling (Going moves) arrivals marks client known known_now journal
+  going_by given moves client known known_now journal gone = record { gave = gone.gave; more = gone.more; own = gone.own; are_marks = gone.are_marks; learned = gone.learned; progress_is = gone.progress_is }
 
   module _ (given given_now : List ℕ) (old new : Client T F K P E O) (was_unready from_unready to_unready now_unready : ℕ) (turned : Turned) (first known known_now : List (Told E)) (journal journal_now : List Entry)
-      (gone : HasGoneOn key_of tells call_of place first_given given telling (Going false) arrivals marks old first known journal)
+      (gone : HasGoneOn key_of tells call_of place first_given given telling (Going 0) arrivals marks old first known journal)
       (same_number : new.number ≡ old.number) (same_conn : new.connection.pass.conn ≡ old.connection.pass.conn) (same_member : new.connection.pass.member ≡ old.connection.pass.member)
       (read_faults : telling.read_faults old.from ≤ telling.read_faults new.from) (write_faults : telling.write_faults old.to ≤ telling.write_faults new.to) (as_long : length known ≡ length place.cells.items)
       (among : HasTurnedAmong key_of tells call_of place given given_now journal journal_now old.connection.asked new.connection
@@ -286,12 +286,12 @@ module _ {T P E O F K : Type 0} (key_of : E → Key) (tells : P → List E → E
       progress_is = subst (λ (l : List Mark). IsProgress key_of tells call_of place given_now telling progress arrivals l new) (append_assoc marks gone.more its.more) is;
     }
 
-    pub then_moved : turned ≡ Moved → HasGoneOn key_of tells call_of place first_given given_now telling (Going false) arrivals marks new first known_now journal_now
-    then_moved e = gone_on (Going false) (after_moved key_of tells call_of place given given_now journal journal_now telling arrivals before (before ++ its.more) old new was_unready from_unready to_unready now_unready turned gone.progress_is
+    pub then_moved : turned ≡ Moved → HasGoneOn key_of tells call_of place first_given given_now telling (Going 0) arrivals marks new first known_now journal_now
+    then_moved e = gone_on (Going 0) (after_moved key_of tells call_of place given given_now journal journal_now telling arrivals before (before ++ its.more) old new was_unready from_unready to_unready now_unready turned gone.progress_is
         same_number same_conn same_member read_faults write_faults among.turn by_journal_now its.marked its.under_way e)
 
-    pub then_not_yet : (moved : Bool) → turned ≡ NotYet → HasGoneOn key_of tells call_of place first_given given_now telling (Going moved) arrivals marks new first known_now journal_now
-    then_not_yet moved e = gone_on (Going moved) (after_not_yet key_of tells call_of place given given_now journal journal_now telling arrivals before (before ++ its.more) old new was_unready from_unready to_unready now_unready turned gone.progress_is
+    pub then_not_yet : (moves : ℕ) → turned ≡ NotYet → HasGoneOn key_of tells call_of place first_given given_now telling (Going moves) arrivals marks new first known_now journal_now
+    then_not_yet moves e = gone_on (Going moves) (after_not_yet key_of tells call_of place given given_now journal journal_now telling arrivals before (before ++ its.more) old new was_unready from_unready to_unready now_unready turned gone.progress_is
         same_number same_conn same_member read_faults write_faults among.turn by_journal_now its.marked its.under_way e)
 
     pub then_end : (end : ConnectionEnd) → turned ≡ Over end → HasGoneOn key_of tells call_of place first_given given_now telling (IsEnded (is_memory end)) arrivals marks new first known_now journal_now

@@ -76,8 +76,7 @@ module _ {T P E O : Type 0} (key_of : E → Key) (tells : P → List E → E →
       no_more = serving.no_more;
       marks = serving.marks;
       are_marks = serving.are_marks;
-      clients = All-weaker (IsServedSince key_of tells call_of place given telling book.arrivals serving.marks) (IsServedSince key_of tells call_of place given_now telling book.arrivals serving.marks)
-          (client_later book.arrivals serving.marks) connections.clients.items serving.clients;
+      clients = λ key client there. client_later book.arrivals serving.marks client (serving.clients key client there);
       given_back = All-weaker (WasServed key_of tells call_of place given connections.journal connections.passes.items book.arrivals) (WasServed key_of tells call_of place given_now connections.journal connections.passes.items book.arrivals)
           (served_later connections.journal connections.passes.items book.arrivals) book.returns serving.given_back;
       named = serving.named;

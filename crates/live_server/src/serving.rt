@@ -12,8 +12,9 @@ ghost use Rattle.live_server.specs.Standing.{MayServe, Rests, HasLetAllIn, IsSin
 use crate::admission::let_in;
 use crate::closing::{Closed, Closing};
 use crate::connections::{Connections, MOST_NUMBERS};
+use crate::due::Due;
 use crate::entrance::{Entrance, Outside};
-use crate::rounds::go_round;
+use crate::rounds::{go_round, hear_ready};
 use grid_edge::{Clock, DoorFault, Doors};
 use hand_cell::Served;
 use loop_journal::Journal;
@@ -47,7 +48,9 @@ const LONGEST_SLEEP: u32 = 1000;
 /// (`HasAnswered`); and where one call's outcome was found before another was started, its event stands first
 /// (`KeepsOrder`). Nothing is said of calls of two servers.
 ///
-/// A round costs a turn of each connection that isn't ready, and up to eight of one that is.
+/// A round costs a look at 16 words, and the turns of the connections that are due, up to eight of each: those that came
+/// since the last round, those of which the doors told since that they may be ready, those that had eight turns, and those
+/// with a call under way. A connection that is idle costs nothing.
 pub fn serve<T: Served, D: Doors, C: Clock, R: Wait>(
     rt: &R,
     alloc: Global,
@@ -84,6 +87,8 @@ pub fn serve<T: Served, D: Doors, C: Clock, R: Wait>(
 #[derive(Drop)]
 pub struct Rounds<D> {
     pub(crate) entrance: Entrance<D>,
+    /// Who has turns in the next round.
+    pub(crate) due: Due,
     /// How many looks in a row found nothing ready.
     pub(crate) idle: usize,
 }
@@ -116,14 +121,15 @@ impl<D: Doors> Rounds<D> {
         connections.journal = Journal::new();
         Rounds {
             entrance: Entrance::Open,
+            due: Due::none(),
             idle: 0,
         }
     }
 }
 
-/// One round of `serve`: lets connections in, unless no more are let in, gives each connection its turns, and sleeps
-/// where nothing is ready. After it, as before, each connection that came is served, as far as it was heard, or was served
-/// to its end and given back.
+/// One round of `serve`: lets connections in, unless no more are let in, gives each connection that is due its turns, and
+/// sleeps where nothing is ready. After it, as before, each connection that came is served, as far as it was heard, or was
+/// served to its end and given back. Costs a look at 16 words, and the turns.
 pub fn serve_round<T: Served, D: Doors, C: Clock, R: Wait>(
     rt: &R,
     alloc: Global,
@@ -141,19 +147,34 @@ pub fn serve_round<T: Served, D: Doors, C: Clock, R: Wait>(
         (telling_by D.From.given D.From.faults D.To.taken D.To.faults) connections.new (D.book doors.new) }
     ensures since { (looks faults : ℕ) → IsAfter D.empty_looks rounds looks (D.empty_looks doors.old)
         faults (D.faults doors.old) (length (D.book doors.old).arrivals)
-        → ComesTo D.empty_looks result connections.new.clients.items looks (D.empty_looks doors.new)
+        → ComesTo D.empty_looks result connections.new.clients looks (D.empty_looks doors.new)
         faults (D.faults doors.new) (length (D.book doors.new).arrivals) }
     ensures opening { (D.book doors.new).opening ≡ (D.book doors.old).opening }
 {
-    let Rounds { entrance, idle } = rounds;
-    let outside = look_outside(alloc, place, connections, doors, clock, closing, entrance);
-    let moved = go_round(rt, alloc, place, connections, doors, clock) || outside.came;
+    let Rounds {
+        entrance,
+        mut due,
+        idle,
+    } = rounds;
+    let outside = look_outside(
+        alloc,
+        place,
+        connections,
+        &mut due,
+        doors,
+        clock,
+        closing,
+        entrance,
+    );
+    hear_ready(doors, &mut due);
+    let went = go_round(rt, alloc, place, connections, &mut due, doors, clock);
     if connections.clients.is_empty() && !outside.entrance.is_open() {
         return Round::Last(outside.entrance.told());
     }
-    let rested = rest(doors, moved, idle, connections.clients.len());
+    let rested = rest(doors, went.moved || outside.came, idle, went.due);
     Round::Next(Rounds {
         entrance: outside.entrance.after(&rested),
+        due: if rested.is_ok() { due } else { Due::all() },
         idle: rested.unwrap_or(0),
     })
 }
@@ -163,6 +184,7 @@ fn look_outside<T: Served, D: Doors, C: Clock>(
     alloc: Global,
     place: &Workplace<T>,
     connections: &mut Connections<T, D::From, D::To>,
+    due: &mut Due,
     doors: &mut D,
     clock: &C,
     closing: &Closing,
@@ -184,7 +206,7 @@ fn look_outside<T: Served, D: Doors, C: Clock>(
         };
     }
     let closed = closing.seen(doors);
-    match let_in(alloc, place, connections, doors, clock) {
+    match let_in(alloc, place, connections, due, doors, clock) {
         Ok(looks) => {
             let all_in = looks.empty || connections.accepted == MOST_NUMBERS;
             Outside {
@@ -203,15 +225,12 @@ fn look_outside<T: Served, D: Doors, C: Clock>(
 }
 
 /// What the thread does after a round: where nothing moved it lets others run, and after few such rounds in a row it
-/// sleeps. `idle` is how many looks in a row found nothing ready before; gives the number for the next round.
+/// sleeps. `idle` is how many looks in a row found nothing ready before, and `due` of how many connections this round's were;
+/// gives the number for the next round.
 ///
 /// Each round has a wait, though it be of no time: doors may tell only there what has come to streams that weren't ready.
-fn rest<D: Doors>(
-    doors: &mut D,
-    moved: bool,
-    idle: usize,
-    clients: usize,
-) -> Result<usize, DoorFault>
+/// Where it fails all connections are due, since no doors tell of them.
+fn rest<D: Doors>(doors: &mut D, moved: bool, idle: usize, due: usize) -> Result<usize, DoorFault>
     ensures book { D.book doors.new ≡ D.book doors.old }
     ensures looks { D.empty_looks doors.new ≡ D.empty_looks doors.old }
     ensures cause { HasCause (D.faults doors.old) (D.faults doors.new) result }
@@ -223,7 +242,7 @@ fn rest<D: Doors>(
     if idle < MOST_LOOKS {
         thread::yield_now();
         doors.wait(0)?;
-        return Ok(idle.saturating_add(clients).saturating_add(1));
+        return Ok(idle.saturating_add(due).saturating_add(1));
     }
     doors.wait(LONGEST_SLEEP)?;
     Ok(0)
