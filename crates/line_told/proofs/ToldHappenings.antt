@@ -21,8 +21,11 @@ use Rattle.partition_world.specs.declared.event.CallOutcome.TheVariants as call
 use Rattle.partition_world.specs.declared.event.Happened.{Happened}
 use Rattle.partition_world.specs.declared.event.Happened.TheVariants as happened
 use Rattle.partition_world.specs.Events.{happened_of}
-use Rattle.line_told.specs.Happenings.{told_took, told_move, told_reopening, as_happened}
-use Rattle.line_told.specs.Outcomes.{words_of}
+use Rattle.masters_protocol.specs.Members as masters
+use Rattle.line_told.specs.Happenings.{told_took, told_move, told_reopening, as_happened, master_told}
+use Rattle.line_told.specs.Outcomes.{words_of, master_words}
+use Rattle.line_told.specs.Printing.{outcome_text}
+use Rattle.line_told.specs.Words.{words_line}
 
 same_took : (t : Took) → told_took (took_of t) ≡ t
 same_took took.Adopted = refl
@@ -106,3 +109,18 @@ same_words done (event.TookMessage how) = λ i. words_of done (event.TookMessage
 same_words done (event.RowMadeAt version) = refl
 same_words done (event.MoveIsRefused why) = λ i. words_of done (event.MoveIsRefused (as_move why i))
 same_words done (event.ReopenIsRefused why) = λ i. words_of done (event.ReopenIsRefused (as_reopening why i))
+
+-- What masters answered is printed in its words too.
+pub same_master_words : (line : ℕ) (answer : masters.Outcome) → outcome_text line (master_told answer) ≡ words_line line (master_words answer)
+same_master_words line masters.NothingDone = refl
+same_master_words line masters.Done = refl
+same_master_words line (masters.Proposed number) = refl
+same_master_words line (masters.RefusedBusy length) = refl
+same_master_words line masters.RefusedFull = refl
+same_master_words line masters.StoreTaken = refl
+same_master_words line masters.Counted = refl
+same_master_words line masters.Asked = refl
+same_master_words line masters.TellKept = refl
+same_master_words line masters.Other = refl
+same_master_words line masters.Stale = refl
+same_master_words line masters.Dropped = refl

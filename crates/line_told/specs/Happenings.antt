@@ -8,6 +8,8 @@ use Rattle.partition_protocol.specs.Service as service
 use Rattle.partition_protocol.specs.Service.{MoveRefused as WhyNotMoved, ReopenRefused as WhyNotReopened}
 use Rattle.partition_protocol.specs.Events as event
 use Rattle.partition_protocol.specs.Events.{Outcome}
+use Rattle.masters_protocol.specs.Members as masters
+use Rattle.master_member.specs.declared.took.MasterTook.TheVariants as took_by
 use Rattle.member_wire.specs.declared.took.Took.{Took}
 use Rattle.member_wire.specs.declared.took.Took.TheVariants as took
 use Rattle.grid_base.specs.declared.refusal.PartitionRefused.TheVariants as refused
@@ -19,7 +21,7 @@ use Rattle.partition_world.specs.declared.event.CallOutcome.TheVariants as call
 use Rattle.partition_world.specs.declared.event.Happened.{Happened}
 use Rattle.partition_world.specs.declared.event.Happened.TheVariants as happened
 use Rattle.line_told.specs.declared.told.LineOutcome.{LineOutcome}
-use Rattle.line_told.specs.declared.told.LineOutcome.TheVariants.{Ran, Idle, Came, Froze}
+use Rattle.line_told.specs.declared.told.LineOutcome.TheVariants.{Ran, Idle, Came, Froze, Proposed, Busy, Full, MasterTook}
 
 abbrev pub told_took : ProtocolTook → Took
 told_took protocol.Adopted = took.Adopted
@@ -76,3 +78,18 @@ abbrev pub fate_told : Outcome → LineOutcome
 fate_told event.Done = Ran
 fate_told (event.RowMadeAt version) = Ran
 fate_told outcome = Idle
+
+-- what a line tells of what the masters answered
+abbrev pub master_told : masters.Outcome → LineOutcome
+master_told masters.NothingDone = Idle
+master_told masters.Done = Ran
+master_told (masters.Proposed number) = Proposed number
+master_told (masters.RefusedBusy length) = Busy length
+master_told masters.RefusedFull = Full
+master_told masters.StoreTaken = MasterTook took_by.Stored
+master_told masters.Counted = MasterTook took_by.Counted
+master_told masters.Asked = MasterTook took_by.Asked
+master_told masters.TellKept = MasterTook took_by.Told
+master_told masters.Other = MasterTook took_by.Other
+master_told masters.Stale = MasterTook took_by.Stale
+master_told masters.Dropped = MasterTook took_by.Dropped

@@ -1,5 +1,6 @@
--- What an event came to, in words.
+-- What an event came to, and what masters answered, in words.
 use Rattle.std.specs.Prelude.{ℕ, List, ◌++◌, codes, decimal}
+use Rattle.masters_protocol.specs.Members as masters
 use Rattle.partition_protocol.specs.Took.{Took, Adopted, Synced, Applied, Bridged, Acked, Frozen, Joined, Drained, Already, Gap, Other, Stale, Dropped}
 use Rattle.partition_protocol.specs.Service.{MoveRefused, Lost, NotIdle, NotThere, AlreadyThere, NotLive, NotEligible, ReopenRefused, NotLost, NoMember}
 use Rattle.partition_protocol.specs.Events.{Outcome, NothingDone, Done, TookMessage, RowMadeAt, MoveIsRefused, ReopenIsRefused}
@@ -47,3 +48,18 @@ words_of done (RowMadeAt version) = codes "row " ++ decimal version
 words_of done (MoveIsRefused why) = refusal_words (move_refused_word why)
 words_of done (ReopenIsRefused why) = refusal_words (reopen_refused_word why)
 words_of done outcome = codes "ok"
+
+-- what masters answer
+abbrev pub master_words : masters.Outcome → List ℕ
+master_words masters.NothingDone = codes "nothing"
+master_words masters.Done = codes "ok"
+master_words (masters.Proposed n) = codes "proposed " ++ decimal n
+master_words (masters.RefusedBusy length) = codes "refused busy"
+master_words masters.RefusedFull = codes "refused full"
+master_words masters.StoreTaken = codes "took stored"
+master_words masters.Counted = codes "took counted"
+master_words masters.Asked = codes "took asked"
+master_words masters.TellKept = codes "took told"
+master_words masters.Other = codes "took other"
+master_words masters.Stale = codes "took stale"
+master_words masters.Dropped = codes "took dropped"

@@ -7,18 +7,20 @@ use Rattle.frame_codec.specs.declared.malformed.Why.{Why}
 use Rattle.frame_codec.specs.declared.malformed.Why.TheVariants.{Prefix, TooShort, TooLong, BadFragment, OpenFragments, ManyFrames, LongMessage, ShortStart, Spent}
 use Rattle.partition_protocol.specs.Node.{Pair}
 use Rattle.partition_protocol.specs.Events.{Outcome}
+use Rattle.masters_protocol.specs.Members as masters
+use Rattle.master_member.specs.Outcomes.{outcome_of}
 use Rattle.partition_world.specs.Events.{happened_of}
 use Rattle.rebalance.specs.declared.Step.{Step}
 use Rattle.rebalance.specs.declared.StepKind.{StepKind}
 use Rattle.rebalance.specs.declared.StepKind.TheVariants.{Move, Handover}
 use Rattle.line_told.specs.declared.told.Appended.{Appended}
 use Rattle.line_told.specs.declared.told.LineOutcome.{LineOutcome}
-use Rattle.line_told.specs.declared.told.LineOutcome.TheVariants.{Ran, Idle, Came, Froze, Flowed, Dumped, InFlight, Trail, Planned, NoMember, Unsettled}
+use Rattle.line_told.specs.declared.told.LineOutcome.TheVariants.{Ran, Idle, Came, Froze, Flowed, Dumped, InFlight, Trail, Planned, NoMember, Unsettled, Proposed, Busy, Full, MasterTook}
 use Rattle.line_told.specs.declared.told.Told.{Told}
 use Rattle.line_told.specs.declared.told.Told.TheVariants as told
 use Rattle.line_told.specs.declared.told.Ready.{Ready}
-use Rattle.line_told.specs.Words.{number, line_end, words_line}
-use Rattle.line_told.specs.Outcomes.{words_of}
+use Rattle.line_told.specs.Words.{word, number, line_end, words_line}
+use Rattle.line_told.specs.Outcomes.{words_of, master_words}
 
 -- outcomes
 
@@ -64,6 +66,10 @@ no_member_text line = number line ++ codes "refused nomember" ++ line_end
 abbrev pub unsettled_text : ℕ → ℕ → List ℕ
 unsettled_text line partition = number line ++ codes "refused unsettled " ++ decimal partition ++ line_end
 
+-- what masters answered
+abbrev pub master_text : ℕ → masters.Outcome → List ℕ
+master_text line answer = words_line line (master_words answer)
+
 abbrev pub outcome_text : ℕ → LineOutcome → List ℕ
 outcome_text line Ran = ok_text line
 outcome_text line Idle = nothing_text line
@@ -76,6 +82,10 @@ outcome_text line (Trail entries) = trail_text line entries
 outcome_text line (Planned steps) = planned_text line steps
 outcome_text line NoMember = no_member_text line
 outcome_text line (Unsettled partition) = unsettled_text line partition
+outcome_text line (Proposed number) = master_text line (masters.Proposed number)
+outcome_text line (Busy length) = master_text line (masters.RefusedBusy length)
+outcome_text line Full = master_text line masters.RefusedFull
+outcome_text line (MasterTook took) = master_text line (outcome_of took)
 
 -- what follows an outcome
 
@@ -98,6 +108,10 @@ end_text line partition moving = number line ++ end_word moving ++ decimal parti
 -- `I to C HEX`
 abbrev pub appended_text : Appended → List ℕ
 appended_text m = number m.line ++ codes "to " ++ number m.conn ++ encode_lower m.bytes ++ line_end
+
+-- `I published P NUMBER`
+abbrev pub published_text : ℕ → ℕ → ℕ → List ℕ
+published_text line partition number = words_line line (codes "published " ++ word (decimal partition) ++ decimal number)
 
 -- the word of a fault
 abbrev pub fault_word : Why → List ℕ
@@ -122,6 +136,7 @@ told_text line (told.Outcome outcome) = outcome_text line outcome
 told_text line (told.Step step) = step_text line step
 told_text line (told.Message message) = appended_text message
 told_text line (told.Ended partition moving) = end_text line partition moving
+told_text line (told.Published partition place) = published_text line partition place
 told_text line (told.Closed c fault) = fault_text line c fault
 
 -- All that a line told is printed in its order.

@@ -1,7 +1,7 @@
 //! What follows a line's outcome, in the words of a transcript.
 
 ghost use Rattle.std.specs.Prelude.{◌≡◌, ◌++◌, OnOk};
-ghost use Rattle.line_told.specs.Printing.{kind_word, step_text, end_word, end_text, fault_word, fault_text, appended_text};
+ghost use Rattle.line_told.specs.Printing.{kind_word, step_text, end_word, end_text, published_text, fault_word, fault_text, appended_text};
 
 use crate::told::Appended;
 use crate::words::{push_decimal, push_hex, push_number, push_text, push_word};
@@ -51,6 +51,22 @@ pub fn push_ended(
     push_number(out, u64::from(line))?;
     push_text(out, end_word(moving).as_bytes())?;
     push_decimal(out, u64::from(partition))?;
+    push_text(out, b"\n")
+}
+
+/// Appends that a decision was published in a partition, and its number in the published list.
+pub fn push_published(
+    out: &mut Vec<u8>,
+    line: u32,
+    partition: PartitionId,
+    number: usize,
+) -> Result<(), Memory>
+    ensures { OnOk result (out.new.items ≡ out.old.items ++ published_text line partition number) }
+{
+    push_number(out, u64::from(line))?;
+    push_text(out, b"published ")?;
+    push_number(out, u64::from(partition))?;
+    push_decimal(out, number as u64)?;
     push_text(out, b"\n")
 }
 

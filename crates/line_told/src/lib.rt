@@ -15,7 +15,7 @@ mod print;
 mod told;
 mod words;
 
-pub use followed::{push_appended, push_close, push_ended, push_step};
+pub use followed::{push_appended, push_close, push_ended, push_published, push_step};
 pub use outcomes::{push_nothing, push_ok, push_outcome, push_words};
 pub use print::{push_ready, push_told};
 pub use told::{Appended, LineOutcome, Ready, Told};

@@ -2,15 +2,19 @@
 
 ghost use Rattle.std.specs.Prelude.{◌≡◌, ◌++◌, OnOk};
 ghost use Rattle.table_service.specs.Refusals.{why_not_moved, why_not_reopened};
+ghost use Rattle.masters_protocol.specs.Members as masters;
+ghost use Rattle.master_member.specs.Outcomes.{outcome_of};
 ghost use Rattle.partition_world.specs.Events.{happened_of};
-ghost use Rattle.line_told.specs.Outcomes.{refusal_words, move_refused_word, reopen_refused_word, words_of};
+ghost use Rattle.line_told.specs.Words.{words_line};
+ghost use Rattle.line_told.specs.Outcomes.{refusal_words, move_refused_word, reopen_refused_word, words_of, master_words};
 ghost use Rattle.line_told.specs.Printing.{came_text, froze_text, ok_text, nothing_text, flow_text, outcome_text};
-ghost use Rattle.line_told.specs.Printing.{dump_text, links_text, trail_text, planned_text, no_member_text, unsettled_text};
+ghost use Rattle.line_told.specs.Printing.{dump_text, links_text, trail_text, planned_text, no_member_text, unsettled_text, master_text};
 
 use crate::told::LineOutcome;
 use crate::words::{push_decimal, push_number, push_text};
 use grid_base::{Memory, PartitionId};
 use itoa::Buffer;
+use master_member::MasterTook;
 use partition_protocol::Pair;
 use partition_world::Happened;
 use table_service::{MoveRefused, ReopenRefused};
@@ -173,6 +177,41 @@ fn push_unsettled(out: &mut Vec<u8>, line: u32, partition: PartitionId) -> Resul
     push_text(out, b"\n")
 }
 
+/// Appends the outcome of a line in these words.
+fn push_line(out: &mut Vec<u8>, line: u32, words: &[u8]) -> Result<(), Memory>
+    ensures { OnOk result (out.new.items ≡ out.old.items ++ words_line line words.now) }
+{
+    push_number(out, u64::from(line))?;
+    push_text(out, words)?;
+    push_text(out, b"\n")
+}
+
+/// Appends that a decision was proposed, and its number in the master's log.
+fn push_proposed(out: &mut Vec<u8>, line: u32, number: u32) -> Result<(), Memory>
+    ensures { OnOk result (out.new.items ≡ out.old.items ++ master_text line (masters.Proposed number)) }
+{
+    push_number(out, u64::from(line))?;
+    push_text(out, b"proposed ")?;
+    push_decimal(out, u64::from(number))?;
+    push_text(out, b"\n")
+}
+
+/// What a line says of a message between masters.
+fn took_words(took: MasterTook) -> &'static str
+    ensures { result.now ≡ master_words (outcome_of took) }
+{
+    match took {
+        MasterTook::Stored => "took stored",
+        MasterTook::Counted => "took counted",
+        MasterTook::Asked => "took asked",
+        MasterTook::Told => "took told",
+        MasterTook::Other => "took other",
+        MasterTook::Stale => "took stale",
+        MasterTook::Dropped => "took dropped",
+        MasterTook::Nothing => "nothing",
+    }
+}
+
 /// Appends what a line came to.
 pub fn push_outcome(out: &mut Vec<u8>, line: u32, outcome: &LineOutcome) -> Result<(), Memory>
     ensures { OnOk result (out.new.items ≡ out.old.items ++ outcome_text line outcome.now) }
@@ -189,5 +228,9 @@ pub fn push_outcome(out: &mut Vec<u8>, line: u32, outcome: &LineOutcome) -> Resu
         LineOutcome::Planned { steps } => push_planned(out, line, *steps),
         LineOutcome::NoMember => push_no_member(out, line),
         LineOutcome::Unsettled { partition } => push_unsettled(out, line, *partition),
+        LineOutcome::Proposed { number } => push_proposed(out, line, *number),
+        LineOutcome::Busy { .. } => push_line(out, line, b"refused busy"),
+        LineOutcome::Full => push_line(out, line, b"refused full"),
+        LineOutcome::MasterTook(took) => push_line(out, line, took_words(*took).as_bytes()),
     }
 }

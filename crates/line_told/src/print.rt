@@ -3,7 +3,7 @@
 ghost use Rattle.std.specs.Prelude.{◌≡◌, ◌++◌, OnOk};
 ghost use Rattle.line_told.specs.Printing.{told_text, text_of, ready_text};
 
-use crate::followed::{push_appended, push_close, push_ended, push_step};
+use crate::followed::{push_appended, push_close, push_ended, push_published, push_step};
 use crate::outcomes::push_outcome;
 use crate::told::{Ready, Told};
 use crate::words::push_text;
@@ -19,6 +19,7 @@ fn push_one(alloc: Global, out: &mut Vec<u8>, line: u32, told: &Told) -> Result<
         Told::Step(step) => push_step(out, line, *step),
         Told::Message(message) => push_appended(alloc, out, message),
         Told::Ended { partition, moving } => push_ended(out, line, *partition, *moving),
+        Told::Published { partition, number } => push_published(out, line, *partition, *number),
         Told::Closed { conn, fault } => push_close(out, line, *conn, *fault),
     }
 }

@@ -2,10 +2,12 @@
 
 ghost use Rattle.std.specs.Prelude.{◌≡◌, []};
 ghost use Rattle.partition_world.specs.Events.{happened_of};
-ghost use Rattle.line_told.specs.Happenings.{event_told, fate_told};
+ghost use Rattle.master_member.specs.Outcomes.{outcome_of};
+ghost use Rattle.line_told.specs.Happenings.{event_told, fate_told, master_told};
 
 use frame_codec::Malformed;
 use grid_base::{Bytes, CallId, PartitionId};
+use master_member::MasterTook;
 use partition_protocol::Pair;
 use partition_world::Happened;
 use rebalance::Step;
@@ -36,6 +38,14 @@ pub enum LineOutcome {
     NoMember,
     /// There is no plan, as that partition isn't settled.
     Unsettled { partition: PartitionId },
+    /// The masters were asked for a decision, which has that number in their master's log.
+    Proposed { number: u32 },
+    /// They took no decision: their master's log, of that length, is longer than the published list.
+    Busy { length: u32 },
+    /// They took no decision: their master's log has as many as it may have.
+    Full,
+    /// So a message between masters was taken.
+    MasterTook(MasterTook),
 }
 
 impl LineOutcome {
@@ -56,6 +66,16 @@ impl LineOutcome {
         match happened {
             Happened::Done | Happened::RowMade { .. } => LineOutcome::Ran,
             _ => LineOutcome::Idle,
+        }
+    }
+
+    /// What a line tells of a message between masters: at a place where none is nothing happened.
+    pub fn of_message(took: MasterTook) -> LineOutcome
+        ensures { result ≡ master_told (outcome_of took) }
+    {
+        match took {
+            MasterTook::Nothing => LineOutcome::Idle,
+            _ => LineOutcome::MasterTook(took),
         }
     }
 }
@@ -84,6 +104,11 @@ pub enum Told {
     Ended {
         partition: PartitionId,
         moving: bool,
+    },
+    /// A decision was published in a partition, as the one of that number. What its event came to stands behind it.
+    Published {
+        partition: PartitionId,
+        number: usize,
     },
     /// A fault closed a connection.
     Closed {
