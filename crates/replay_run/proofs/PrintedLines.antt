@@ -10,7 +10,6 @@ use Rattle.partition_protocol.specs.Events.{Event, Outcome}
 use Rattle.partition_protocol.specs.Events as event
 use Rattle.partition_protocol.specs.World.{trail}
 use Rattle.partition_world.specs.ContentsOf.{pair_at}
-use Rattle.partition_world.specs.declared.event.Happened.{Happened}
 use Rattle.call_engine.specs.Calls.{Settings}
 use Rattle.call_engine.specs.Objects.{partition_object}
 use Rattle.object_store.specs.Partitions.{Partition}
@@ -20,32 +19,28 @@ use Rattle.script_lang.specs.declared.line.Line.{Line}
 use Rattle.script_lang.specs.declared.line.Line.TheVariants.{Arrive, Flow, FlowAll, Crash, Detect, Rebalance, Dump, Links, Trail, MasterFlow, End}
 use Rattle.line_told.specs.Happenings.{event_told, fate_told}
 use Rattle.line_told.specs.Outcomes.{words_of}
-use Rattle.line_told.specs.Printing.{outcome_text as told_outcome, planned_text, step_text, end_text, fault_text, text_of, ready_text}
+use Rattle.line_told.specs.Printing.{outcome_text as told_outcome, planned_text, step_text, end_text, fault_text, text_of}
 use Rattle.line_told.specs.Words.{words_line}
 use Rattle.line_told.specs.declared.told.Appended.{Appended}
 use Rattle.line_told.specs.declared.told.LineOutcome.{LineOutcome}
 use Rattle.line_told.specs.declared.told.LineOutcome.TheVariants as outcome
-use Rattle.line_told.specs.declared.told.Ready.{Ready}
 use Rattle.line_told.specs.declared.told.Told.{Told}
 use Rattle.line_told.specs.declared.told.Told.TheVariants as told
 use Rattle.line_told.proofs.ToldHappenings.{same_words}
-use Rattle.replay_run.specs.declared.grid.Grid.{Grid}
 use Rattle.replay_run.specs.AfterLines.{after_line}
 use Rattle.replay_run.specs.Appending.{appended_text, new_messages}
-use Rattle.replay_run.specs.AsText as text
-use Rattle.replay_run.specs.Grids.{FormOf, HasGiven}
 use Rattle.replay_run.specs.LineTold.{came_to, all_told, is_advance, event_outcome, fate_outcome, plan_told, outcome_told, end_told, ran_told, ran_all_told, messages_told, close_told, closing_told, line_closing, line_told, line_printed}
 use Rattle.replay_run.specs.Printing.{done_word, fate_words, does_nothing, event_text, fate_text, deliveries, in_flight, outcome_text, line_messages, close_text, closing_text, line_close, line_dump, line_links, line_text, printed_by, entry_text, outcome_at, nothing_text}
 use Rattle.replay_run.specs.Rebalancing.{is_moving_at, stepped, steps_in, plan_in}
 use Rattle.replay_run.specs.RebalancingTexts.{plan_text, ran_text, ran_texts}
 use Rattle.replay_run.specs.Runs.{Run, Connection, At, connection_of, fault_on, next_line, event_by, world_at}
-use Rattle.replay_run.specs.WorldCalls.{HasTaken, texts_of}
+use Rattle.replay_run.specs.WorldCalls.{texts_of}
 use Rattle.replay_run.proofs.LineCases.{is_writing, writes_nothing}
 use Rattle.replay_run.proofs.Bounds.{line_lines}
 use Rattle.replay_run.proofs.Rebalanced.{stepped_kept}
 
 module _ (line : ℕ) where
-  text_append : (xs ys : List Told) → text_of line (xs ++ ys) ≡ text_of line xs ++ text_of line ys
+  pub text_append : (xs ys : List Told) → text_of line (xs ++ ys) ≡ text_of line xs ++ text_of line ys
   text_append xs ys = flat_map-append _ xs ys
 
   pub messages_text : (ms : List Appended) → text_of line (all_told ms) ≡ texts_of ms
@@ -54,10 +49,10 @@ module _ (line : ℕ) where
 
   -- outcomes
 
-  one_text : (came : LineOutcome) → text_of line (came_to came) ≡ told_outcome line came
+  pub one_text : (came : LineOutcome) → text_of line (came_to came) ≡ told_outcome line came
   one_text came = append-nil (told_outcome line came)
 
-  event_words : (e : Event Request) (x : Outcome) → told_outcome line (event_told (is_advance e) x) ≡ words_line line (words_of (done_word e) x)
+  pub event_words : (e : Event Request) (x : Outcome) → told_outcome line (event_told (is_advance e) x) ≡ words_line line (words_of (done_word e) x)
   event_words event.Advance event.NothingDone = refl
   event_words event.Advance event.Done = refl
   event_words event.Advance (event.HeldAt seen) = refl
@@ -69,7 +64,7 @@ module _ (line : ℕ) where
   event_words event.Advance (event.ReopenIsRefused why) = ap (words_line line) (same_words (codes "ok") (event.ReopenIsRefused why))
   event_words e x = ap (words_line line) (same_words (codes "ok") x)
 
-  fate_is : (x : Outcome) → told_outcome line (fate_told x) ≡ words_line line (fate_words x)
+  pub fate_is : (x : Outcome) → told_outcome line (fate_told x) ≡ words_line line (fate_words x)
   fate_is event.Done = refl
   fate_is (event.RowMadeAt version) = refl
   fate_is x = refl
@@ -198,37 +193,3 @@ module _ (settings : Settings) (skips : List CallId) (r : Run) (line : Line) whe
 
   pub line_is : text_of next.lines (line_told settings skips r line next) ++ line_printed settings r line ≡ line_text settings skips r line next
   line_is = by_idle (does_nothing o r line) refl
-
--- What ran is printed as the line's text.
-pub printed_line : {V : Type 0} {T : V → Type 0} {form : FormOf V T} {settings : Settings} {new : Grid V T} {r : Run} {line : Line} (number : ℕ) (start ready : Ready) (written later : List ℕ) → start.told.items ≡ [] → start.printed.items ≡ []
-    → HasGiven form settings new r line start ready → number ≡ r.lines + 1 → later ≡ written ++ ready_text number ready → text.HasRun form settings new r line written later
-printed_line {settings = settings} {r = r} {line = line} number start ready written later none blank given at_line is =
-    let ran = given.told in
-    let next = after_line (partition_object settings) ran.skips r line in
-    let counted : number ≡ next.lines = at_line ∙ sym (line_lines (partition_object settings) ran.skips r line) in
-    let told : ready.told.items ≡ line_told settings ran.skips r line next = ran.added ∙ ap (λ xs. xs ++ line_told settings ran.skips r line next) none in
-    let printed : ready.printed.items ≡ line_printed settings r line = given.printed ∙ ap (λ xs. xs ++ line_printed settings r line) blank in
-    record {
-      skips = ran.skips;
-      of_line = ran.of_line;
-      stands = ran.stands;
-      added = is ∙ (λ i. written ++ (text_of (counted i) (told i) ++ printed i)) ∙ ap (λ xs. written ++ xs) (line_is settings ran.skips r line);
-    }
-
--- What was taken is printed as its messages.
-pub printed_event : {V : Type 0} {T : V → Type 0} {form : FormOf V T} {settings : Settings} {new : Grid V T} {r : Run} {p : ℕ} {e : Event Request} {happened : Happened} (number : ℕ) (start told : List Told) (written later : List ℕ) → start ≡ [] → HasTaken form settings new r p e happened start told
-    → later ≡ written ++ text_of number told → text.HasTaken form settings new r p e happened written later
-printed_event number start told written later none taken is = record {
-  on = record {
-    skips = taken.on.skips;
-    own = taken.on.own;
-    on = record {
-      amid = taken.on.on.amid;
-      messages = taken.on.on.messages;
-      appended = taken.on.on.appended;
-      added = is ∙ ap (λ xs. written ++ text_of number xs) (taken.on.on.added ∙ ap (λ xs. xs ++ all_told taken.on.on.messages) none)
-          ∙ ap (λ xs. written ++ xs) (messages_text number taken.on.on.messages);
-    };
-  };
-  outcome = taken.outcome;
-}

@@ -1,6 +1,5 @@
 pub mod AfterLines
 pub mod Appending
-pub mod AsText
 pub mod ByMachine
 pub mod Changes
 pub mod Counts

@@ -1,7 +1,6 @@
 //! A script, line by line: what each line does to a grid, and what it tells.
 #![tactic(auto)]
 
-mod as_text;
 mod calls;
 mod connections;
 mod counts;
@@ -31,5 +30,6 @@ pub use laws::{
 };
 pub use line_told::{push_decimal, push_nothing, push_number, push_ok, push_text, push_value};
 pub use links::MOST_IN_FLIGHT;
-pub use outcomes::{done_word, push_fate, push_flow, push_happened};
+pub use messages::tell_outcome;
+pub use outcomes::{done_word, is_advance, push_fate, push_happened};
 pub use run_end::RunEnd;

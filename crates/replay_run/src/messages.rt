@@ -36,7 +36,7 @@ pub(crate) fn message_of(line: u32, answer: CallAnswer) -> Appended
 }
 
 /// Tells what a line came to.
-pub(crate) fn tell_outcome(out: &mut Vec<Told>, outcome: LineOutcome) -> Result<(), Memory>
+pub fn tell_outcome(out: &mut Vec<Told>, outcome: LineOutcome) -> Result<(), Memory>
     ensures { OnOk result (out.new.items ≡ out.old.items ++ came_to outcome) }
 {
     Ok(out.push(Told::Outcome(outcome))?)

@@ -3,14 +3,14 @@
 ghost use Rattle.std.specs.Prelude.{◌≡◌, ◌++◌, OnOk};
 ghost use Rattle.partition_world.specs.Events.{event_of, happened_of};
 ghost use Rattle.replay_run.specs.LineTold.{is_advance};
-ghost use Rattle.replay_run.specs.Printing.{done_word, words_of, fate_words, words_line, flow_text};
+ghost use Rattle.replay_run.specs.Printing.{done_word, words_of, fate_words, words_line};
 
 use grid_base::{Memory, Request};
-use line_told::{push_decimal, push_number, push_text, push_words};
+use line_told::{push_number, push_text, push_words};
 use partition_world::{Event, Happened};
 
 /// Whether an event is an advance.
-pub(crate) fn is_advance(event: &Event<Request>) -> bool
+pub fn is_advance(event: &Event<Request>) -> bool
     ensures { result ≡ is_advance (event_of event.now) }
 {
     matches!(event, Event::Advance)
@@ -56,15 +56,5 @@ pub fn push_fate(out: &mut Vec<u8>, line: u32, happened: Happened) -> Result<(),
 {
     push_number(out, u64::from(line))?;
     push_text(out, fate_word(happened).as_bytes())?;
-    push_text(out, b"\n")
-}
-
-/// Appends the outcome of a line that delivered so many messages.
-pub fn push_flow(out: &mut Vec<u8>, line: u32, deliveries: u32) -> Result<(), Memory>
-    ensures { OnOk result (out.new.items ≡ out.old.items ++ flow_text line deliveries) }
-{
-    push_number(out, u64::from(line))?;
-    push_text(out, b"flow ")?;
-    push_decimal(out, u64::from(deliveries))?;
     push_text(out, b"\n")
 }
