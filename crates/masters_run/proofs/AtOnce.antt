@@ -1,6 +1,5 @@
 -- A line with masters that the grid runs as it stands: one that asks for no event, or for one that happens at once and of which the masters are asked nothing.
 use Rattle.std.proofs.Common.{◌≡◌, ◌≢◌, ℕ, ◌+◌, ◌<◌, Bool, true, false, true≢false, not, ◌&&◌, ◌==◌, is_some, cond, List, [], ◌∷◌, ◌++◌, map, length, Some, None, slice_get, slice_set, unwrap_or, refl, ap, sym, ◌∙◌, subst, append-nil}
-use Rattle.std.specs.List.{flat_map}
 use Rattle.std.proofs.lemmas.Option.{slice_get-get_or}
 use Rattle.grid_base.specs.Objects.{Object}
 use Rattle.grid_base.specs.declared.names.CallId.{CallId}
@@ -22,13 +21,15 @@ use Rattle.script_lang.specs.declared.line.Line.{Line as ScriptLine}
 use Rattle.script_lang.specs.declared.line.Line.TheVariants.{Grid, OpenConn, Arrive, Clock, Deliver, Lose, Repeat, Flow, FlowAll, Resend, Crash, Detect, Move, Join, Handover, Advance, Reopen, Rebalance, Dump, Links, Trail, Near, NearGet, NearFeed, Masters as MastersLine, Told, MasterDeliver, MasterLose, MasterResend, MasterFlow, Comment, End}
 use Rattle.replay_run.specs.Runs.{Run, At, next_line, event_by}
 use Rattle.replay_run.specs.Appending.{new_messages}
-use Rattle.replay_run.specs.Printing.{nothing_text, words_line, words_of, done_word, outcome_at, outcome_text, line_messages, line_close, line_dump, line_links, entry_text, printed_by}
-use Rattle.replay_run.specs.Printing as grid
-use Rattle.replay_run.specs.WorldCalls.{texts_of}
+use Rattle.line_told.specs.Happenings.{event_told}
+use Rattle.replay_run.specs.LineTold.{came_to, all_told, is_advance, outcome_told, messages_told, line_closing}
+use Rattle.replay_run.specs.LineTold as grid
+use Rattle.replay_run.specs.Printing.{outcome_at}
+use Rattle.line_told.specs.declared.told.LineOutcome.TheVariants.{Idle}
 use Rattle.replay_run.proofs.EventLines.{PrintsMessages, of_event}
 use Rattle.masters_run.specs.Runs.{RuledRun, masters_at, ruled_at, meets_full_link, takes_each, goes, counted}
 use Rattle.masters_run.specs.AfterLines.{by_grid, ruled_line}
-use Rattle.masters_run.specs.Printing.{event_words, said, outcome_words, published_texts, followed, grid_text, asked_text, ruled_text}
+use Rattle.masters_run.specs.LineTold.{event_outcome, said, asked_outcome, all_published, followed, grid_told, asked_told, ruled_told}
 use Rattle.masters_run.specs.Parts.{is_later, is_held_back, is_of_masters}
 use Rattle.masters_run.proofs.Going.{goes_far}
 use Rattle.masters_run.proofs.OwnLines.{IsPlain}
@@ -81,30 +82,26 @@ module _ (o : Object Request Partition) (s : RuledRun) (p : ℕ) (e : Event Requ
 
   -- what it says
 
-  pub followed_at_once : (skips : List CallId) → followed o skips s p (Asks e) ≡ texts_of (new_messages s.run (goes o skips s p (Asks e)).run)
+  pub followed_at_once : (skips : List CallId) → followed o skips s p (Asks e) ≡ all_told (new_messages s.run (goes o skips s p (Asks e)).run)
   followed_at_once skips =
-      ap (λ ds. published_texts o s.run.lines p (length j.masters.published + 1) (run o j.world (at_once_of j e)) ds ++ texts_of (new_messages s.run (goes o skips s p (Asks e)).run)) nothing_published
+      ap (λ ds. all_published o p (length j.masters.published + 1) (run o j.world (at_once_of j e)) ds ++ all_told (new_messages s.run (goes o skips s p (Asks e)).run)) nothing_published
 
-  pub says_at_once : outcome_words o j (Asks e) ≡ said [] (map (event_words o j.world) (at_once_of j e))
-  says_at_once = ap (λ es. said (masters_say j.masters es) (map (event_words o j.world) (at_once_of j e))) none
+  pub says_at_once : asked_outcome o j (Asks e) ≡ said [] (map (event_outcome o j.world) (at_once_of j e))
+  says_at_once = ap (λ es. said (masters_say j.masters es) (map (event_outcome o j.world) (at_once_of j e))) none
 
--- a line of the grid that prints its outcome and its messages alone
-pub text_of_messages : (settings : Settings) (skips : List CallId) (r next : Run) (line : ScriptLine) → PrintsMessages settings skips r next line → grid.line_text settings skips r line next ≡ outcome_text settings r line next ++ texts_of (new_messages r next)
-text_of_messages settings skips r next line prints =
-    let o = partition_object settings in
-    let outcome = outcome_text settings r line next in
-    let whole = outcome ++ line_messages settings skips r line next ++ line_close next line ++ line_dump o next line ++ line_links settings next line ++ flat_map (entry_text next.lines) (printed_by o next line) in
-    let parts = outcome ++ texts_of (new_messages r next) in
-    ap (λ b. cond b (nothing_text next.lines) whole) prints.goes
-    ∙ (λ i. outcome ++ prints.said i ++ prints.close i ++ prints.dump i ++ prints.links i ++ flat_map (entry_text next.lines) (prints.printed i))
-    ∙ append-nil (parts ++ [] ++ [] ++ []) ∙ append-nil (parts ++ [] ++ []) ∙ append-nil (parts ++ []) ∙ append-nil parts
+-- a line of the grid that tells its outcome and its messages alone
+pub told_of_messages : (settings : Settings) (skips : List CallId) (r next : Run) (line : ScriptLine) → PrintsMessages settings skips r next line → grid.line_told settings skips r line next ≡ outcome_told settings r line next ++ all_told (new_messages r next)
+told_of_messages settings skips r next line prints =
+    let outcome = outcome_told settings r line next in
+    ap (λ b. cond b (came_to Idle) (outcome ++ messages_told settings skips r line next ++ line_closing next line)) prints.goes
+    ∙ (λ i. outcome ++ prints.tells i ++ prints.closes i) ∙ append-nil (outcome ++ all_told (new_messages r next))
 
 -- lines
 
 -- a line that is the grid's own
 pub record IsOwn (settings : Settings) (s : RuledRun) (line : ScriptLine) : Type 0 where
   pub after : (skips : List CallId) → ruled_line (partition_object settings) skips s line ≡ by_grid (partition_object settings) skips s line
-  pub text : (skips : List CallId) (next : RuledRun) → ruled_text settings skips s line next ≡ grid_text settings skips s line next
+  pub tells : (skips : List CallId) (next : RuledRun) → ruled_told settings skips s line next ≡ grid_told settings skips s line next
   pub plain : IsPlain line
   pub none : event_by line ≡ None
 
@@ -112,7 +109,7 @@ pub record IsOwn (settings : Settings) (s : RuledRun) (line : ScriptLine) : Type
 pub record IsEvent (settings : Settings) (s : RuledRun) (line : ScriptLine) (e : At) : Type 0 where
   pub is : event_by line ≡ Some e
   pub after : (skips : List CallId) → ruled_line (partition_object settings) skips s line ≡ goes (partition_object settings) skips (counted s) e.partition (Asks e.event)
-  pub text : (skips : List CallId) (next : RuledRun) → ruled_text settings skips s line next ≡ asked_text (partition_object settings) skips (counted s) e.partition (Asks e.event)
+  pub tells : (skips : List CallId) (next : RuledRun) → ruled_told settings skips s line next ≡ asked_told (partition_object settings) skips (counted s) e.partition (Asks e.event)
   pub no_crash : (m : ℕ) → e.event ≢ event.Crash m
 
 module _ (settings : Settings) (s : RuledRun) where
@@ -120,15 +117,15 @@ module _ (settings : Settings) (s : RuledRun) where
   same_event line x e same = let one : x ≡ e = cc in subst (IsEvent settings s line) one
 
   pub as_event : (line : ScriptLine) (e : At) → event_by line ≡ Some e → IsEvent settings s line e
-  as_event (Deliver p from to place) e same = same_event (Deliver p from to place) (record { partition = p; event = event.Deliver from to place }) e same (record { is = refl; after = λ skips. refl; text = λ skips next. refl; no_crash = λ m z. absurd cc })
-  as_event (Lose p from to place) e same = same_event (Lose p from to place) (record { partition = p; event = event.Lose from to place }) e same (record { is = refl; after = λ skips. refl; text = λ skips next. refl; no_crash = λ m z. absurd cc })
-  as_event (Repeat p from to place) e same = same_event (Repeat p from to place) (record { partition = p; event = event.Repeat from to place }) e same (record { is = refl; after = λ skips. refl; text = λ skips next. refl; no_crash = λ m z. absurd cc })
-  as_event (Resend p end) e same = same_event (Resend p end) (record { partition = p; event = event.Resend end }) e same (record { is = refl; after = λ skips. refl; text = λ skips next. refl; no_crash = λ m z. absurd cc })
-  as_event (Move p from to) e same = same_event (Move p from to) (record { partition = p; event = event.BeginMove from to }) e same (record { is = refl; after = λ skips. refl; text = λ skips next. refl; no_crash = λ m z. absurd cc })
-  as_event (Join p to) e same = same_event (Join p to) (record { partition = p; event = event.BeginJoin to }) e same (record { is = refl; after = λ skips. refl; text = λ skips next. refl; no_crash = λ m z. absurd cc })
-  as_event (Handover p from to) e same = same_event (Handover p from to) (record { partition = p; event = event.BeginHandover from to }) e same (record { is = refl; after = λ skips. refl; text = λ skips next. refl; no_crash = λ m z. absurd cc })
-  as_event (Advance p) e same = same_event (Advance p) (record { partition = p; event = event.Advance }) e same (record { is = refl; after = λ skips. refl; text = λ skips next. refl; no_crash = λ m z. absurd cc })
-  as_event (Reopen p) e same = same_event (Reopen p) (record { partition = p; event = event.Reopen }) e same (record { is = refl; after = λ skips. refl; text = λ skips next. refl; no_crash = λ m z. absurd cc })
+  as_event (Deliver p from to place) e same = same_event (Deliver p from to place) (record { partition = p; event = event.Deliver from to place }) e same (record { is = refl; after = λ skips. refl; tells = λ skips next. refl; no_crash = λ m z. absurd cc })
+  as_event (Lose p from to place) e same = same_event (Lose p from to place) (record { partition = p; event = event.Lose from to place }) e same (record { is = refl; after = λ skips. refl; tells = λ skips next. refl; no_crash = λ m z. absurd cc })
+  as_event (Repeat p from to place) e same = same_event (Repeat p from to place) (record { partition = p; event = event.Repeat from to place }) e same (record { is = refl; after = λ skips. refl; tells = λ skips next. refl; no_crash = λ m z. absurd cc })
+  as_event (Resend p end) e same = same_event (Resend p end) (record { partition = p; event = event.Resend end }) e same (record { is = refl; after = λ skips. refl; tells = λ skips next. refl; no_crash = λ m z. absurd cc })
+  as_event (Move p from to) e same = same_event (Move p from to) (record { partition = p; event = event.BeginMove from to }) e same (record { is = refl; after = λ skips. refl; tells = λ skips next. refl; no_crash = λ m z. absurd cc })
+  as_event (Join p to) e same = same_event (Join p to) (record { partition = p; event = event.BeginJoin to }) e same (record { is = refl; after = λ skips. refl; tells = λ skips next. refl; no_crash = λ m z. absurd cc })
+  as_event (Handover p from to) e same = same_event (Handover p from to) (record { partition = p; event = event.BeginHandover from to }) e same (record { is = refl; after = λ skips. refl; tells = λ skips next. refl; no_crash = λ m z. absurd cc })
+  as_event (Advance p) e same = same_event (Advance p) (record { partition = p; event = event.Advance }) e same (record { is = refl; after = λ skips. refl; tells = λ skips next. refl; no_crash = λ m z. absurd cc })
+  as_event (Reopen p) e same = same_event (Reopen p) (record { partition = p; event = event.Reopen }) e same (record { is = refl; after = λ skips. refl; tells = λ skips next. refl; no_crash = λ m z. absurd cc })
   as_event (Grid members backups capacity) e same = absurd cc
   as_event (OpenConn c member) e same = absurd cc
   as_event (Arrive c bytes) e same = absurd cc
@@ -167,18 +164,18 @@ module _ (settings : Settings) (s : RuledRun) where
   as_own (MasterLose p from to place) none flow all crash detect on other = absurd (true≢false other)
   as_own (MasterResend p member) none flow all crash detect on other = absurd (true≢false other)
   as_own (MasterFlow p most) none flow all crash detect on other = absurd (true≢false other)
-  as_own (Grid members backups capacity) none flow all crash detect on other = record { after = λ skips. refl; text = λ skips next. refl; plain = tt; none = refl }
-  as_own (OpenConn c member) none flow all crash detect on other = record { after = λ skips. refl; text = λ skips next. refl; plain = tt; none = refl }
-  as_own (Arrive c bytes) none flow all crash detect on other = record { after = λ skips. refl; text = λ skips next. refl; plain = tt; none = refl }
-  as_own (Clock member moment) none flow all crash detect on other = record { after = λ skips. refl; text = λ skips next. refl; plain = tt; none = refl }
-  as_own (Dump p member) none flow all crash detect on other = record { after = λ skips. refl; text = λ skips next. refl; plain = tt; none = refl }
-  as_own (Links p) none flow all crash detect on other = record { after = λ skips. refl; text = λ skips next. refl; plain = tt; none = refl }
-  as_own (Trail p) none flow all crash detect on other = record { after = λ skips. refl; text = λ skips next. refl; plain = tt; none = refl }
-  as_own (Near c name capacity) none flow all crash detect on other = record { after = λ skips. refl; text = λ skips next. refl; plain = tt; none = refl }
-  as_own (NearGet c key) none flow all crash detect on other = record { after = λ skips. refl; text = λ skips next. refl; plain = tt; none = refl }
-  as_own (NearFeed c most) none flow all crash detect on other = record { after = λ skips. refl; text = λ skips next. refl; plain = tt; none = refl }
-  as_own Comment none flow all crash detect on other = record { after = λ skips. refl; text = λ skips next. refl; plain = tt; none = refl }
-  as_own End none flow all crash detect on other = record { after = λ skips. refl; text = λ skips next. refl; plain = tt; none = refl }
+  as_own (Grid members backups capacity) none flow all crash detect on other = record { after = λ skips. refl; tells = λ skips next. refl; plain = tt; none = refl }
+  as_own (OpenConn c member) none flow all crash detect on other = record { after = λ skips. refl; tells = λ skips next. refl; plain = tt; none = refl }
+  as_own (Arrive c bytes) none flow all crash detect on other = record { after = λ skips. refl; tells = λ skips next. refl; plain = tt; none = refl }
+  as_own (Clock member moment) none flow all crash detect on other = record { after = λ skips. refl; tells = λ skips next. refl; plain = tt; none = refl }
+  as_own (Dump p member) none flow all crash detect on other = record { after = λ skips. refl; tells = λ skips next. refl; plain = tt; none = refl }
+  as_own (Links p) none flow all crash detect on other = record { after = λ skips. refl; tells = λ skips next. refl; plain = tt; none = refl }
+  as_own (Trail p) none flow all crash detect on other = record { after = λ skips. refl; tells = λ skips next. refl; plain = tt; none = refl }
+  as_own (Near c name capacity) none flow all crash detect on other = record { after = λ skips. refl; tells = λ skips next. refl; plain = tt; none = refl }
+  as_own (NearGet c key) none flow all crash detect on other = record { after = λ skips. refl; tells = λ skips next. refl; plain = tt; none = refl }
+  as_own (NearFeed c most) none flow all crash detect on other = record { after = λ skips. refl; tells = λ skips next. refl; plain = tt; none = refl }
+  as_own Comment none flow all crash detect on other = record { after = λ skips. refl; tells = λ skips next. refl; plain = tt; none = refl }
+  as_own End none flow all crash detect on other = record { after = λ skips. refl; tells = λ skips next. refl; plain = tt; none = refl }
   as_own line none flow all crash detect on other = absurd cc
 
 -- What happens at once of an event is itself, or nothing.
@@ -231,13 +228,13 @@ module _ (settings : Settings) (s : RuledRun) (line : ScriptLine) (e : At) (is :
       ∙ ap (λ es. record { run = takes_each o skips (next_line s.run) e.partition es; masters = s.masters }) alone
       ∙ ap (λ r. record { run = r; masters = s.masters }) (sym ((of_event settings s.run line e is).after skips))
 
-  pub event_text : (skips : List CallId) (next : RuledRun) → next.run.lines ≡ s.run.lines + 1 → next ≡ goes o skips (counted s) e.partition (Asks e.event)
-      → asked_text o skips (counted s) e.partition (Asks e.event) ≡ grid_text settings skips s line next
-  event_text skips next at_line same =
+  pub event_tells : (skips : List CallId) (next : RuledRun) → next ≡ goes o skips (counted s) e.partition (Asks e.event)
+      → asked_told o skips (counted s) e.partition (Asks e.event) ≡ grid_told settings skips s line next
+  event_tells skips next same =
       let by = of_event settings s.run line e is in
-      let words : outcome_words o k (Asks e.event) ≡ words_of (done_word e.event) (outcome_at o s.run e.partition e.event) =
-      says_at_once o (counted s) e.partition e.event asks_none ∙ ap (λ es. said [] (map (event_words o k.world) es)) alone in
-      let outcome : words_line (s.run.lines + 1) (outcome_words o k (Asks e.event)) ≡ outcome_text settings s.run line next.run = ap (λ n. words_line n (outcome_words o k (Asks e.event))) (sym at_line) ∙ ap (λ xs. words_line next.run.lines xs) words ∙ by.outcome next.run in
-      let rest : followed o skips (counted s) e.partition (Asks e.event) ≡ texts_of (new_messages s.run next.run) =
-      followed_at_once o (counted s) e.partition e.event asks_none skips ∙ ap (λ (x : RuledRun). texts_of (new_messages s.run x.run)) (sym same) in
-      (λ i. outcome i ++ rest i) ∙ sym (text_of_messages settings skips s.run next.run line (by.prints skips next.run))
+      let came : asked_outcome o k (Asks e.event) ≡ event_told (is_advance e.event) (outcome_at o s.run e.partition e.event) =
+      says_at_once o (counted s) e.partition e.event asks_none ∙ ap (λ es. said [] (map (event_outcome o k.world) es)) alone in
+      let outcome : came_to (asked_outcome o k (Asks e.event)) ≡ outcome_told settings s.run line next.run = ap came_to came ∙ by.tells next.run in
+      let rest : followed o skips (counted s) e.partition (Asks e.event) ≡ all_told (new_messages s.run next.run) =
+      followed_at_once o (counted s) e.partition e.event asks_none skips ∙ ap (λ (x : RuledRun). all_told (new_messages s.run x.run)) (sym same) in
+      (λ i. outcome i ++ rest i) ∙ sym (told_of_messages settings skips s.run next.run line (by.prints skips next.run))

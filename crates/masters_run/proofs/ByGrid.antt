@@ -18,26 +18,28 @@ use Rattle.master_log.specs.Standing.{StandsFor}
 use Rattle.script_lang.specs.declared.line.Line.{Line as ScriptLine}
 use Rattle.script_lang.specs.declared.line.Line.TheVariants as ScriptLines
 use Rattle.script_lang.specs.Lines.{IsWithin}
+use Rattle.line_told.specs.declared.told.Told.{Told}
 use Rattle.replay_run.specs.Runs.{Run, At, partitions, takes, takes_in, next_line, event_by}
 use Rattle.replay_run.specs.Endings.{AreAmong, new_arrivals}
 use Rattle.replay_run.specs.Grids.{FormOf, most_arriving}
-use Rattle.replay_run.specs.AsText as printed
 use Rattle.replay_run.specs.Grids as alone
-use Rattle.replay_run.specs.Printing.{ok_text, nothing_text, line_text as alone_text}
+use Rattle.replay_run.specs.LineTold.{came_to, line_told as alone_told}
+use Rattle.line_told.specs.declared.told.LineOutcome.TheVariants.{Ran, Idle}
+use Rattle.line_told.specs.declared.told.Ready.{Ready}
 use Rattle.replay_run.proofs.Bounds as bounds
 use Rattle.replay_run.proofs.LineCounts as counts
 use Rattle.masters_run.specs.declared.grid.RuledGrid.{RuledGrid}
 use Rattle.masters_run.specs.Runs.{RuledRun, are_some, has_masters, ruled_at, takes_each, goes, goes_in, counted, opening_masters}
 use Rattle.masters_run.specs.AfterLines.{by_grid, unruled, after_line}
-use Rattle.masters_run.specs.Printing.{grid_text, unruled_text, line_text}
+use Rattle.masters_run.specs.LineTold.{grid_told, unruled_told, line_told}
 use Rattle.masters_run.specs.Written.{written_event, written_events}
-use Rattle.masters_run.specs.Grids.{HasMastersAt, Rules, Stands, HasRun, IsGivenUp}
+use Rattle.masters_run.specs.Grids.{HasMastersAt, Rules, Stands, HasRun, HasGiven, IsGivenUp}
 use Rattle.masters_run.specs.Parts.{is_held_back, is_of_masters, HaveCrashed}
 use Rattle.masters_run.proofs.AskedLines.{asked_more, crash_publishes_nothing, happens_at_once}
 use Rattle.replay_run.proofs.EventLines.{of_event}
-use Rattle.masters_run.proofs.AtOnce.{IsOwn, as_event, as_own, asks_none, event_goes, event_text}
+use Rattle.masters_run.proofs.AtOnce.{IsOwn, as_event, as_own, asks_none, event_goes, event_tells}
 use Rattle.masters_run.proofs.Going.{goes_far}
-use Rattle.masters_run.proofs.LineParts.{with_masters, text_with_masters, without_masters, text_without_masters}
+use Rattle.masters_run.proofs.LineParts.{with_masters, told_with_masters, without_masters, told_without_masters}
 use Rattle.masters_run.proofs.RuleLemmas.{own_rules, quiet_rules, counted_rules, WereAskedIn, goes_in_rules}
 
 -- what the line is, to the grid's run and to the code's masters, which become these
@@ -45,7 +47,7 @@ pub record RunsAlone (settings : Settings) (s : RuledRun) (line : ScriptLine) (a
   pub next : List CallId → RuledRun
   pub after : (skips : List CallId) → after_line (partition_object settings) skips s line ≡ next skips
   pub run : (skips : List CallId) → (next skips).run ≡ (by_grid (partition_object settings) skips s line).run
-  pub text : (skips : List CallId) → line_text settings skips s line (next skips) ≡ grid_text settings skips s line (next skips)
+  pub tells : (skips : List CallId) → line_told settings skips s line (next skips) ≡ grid_told settings skips s line (next skips)
   pub rules : (skips : List CallId) → (next skips).run.full ≡ false → Rules settings all s → Rules settings new (next skips)
 
 module _ {V : Type 0} {T : V → Type 0} {form : FormOf V T} {settings : Settings} (all new : RuledGrid V T) (s : RuledRun) (stands : Stands form settings all s) (line : ScriptLine) (h : RunsAlone settings s line all.masters.items new.masters.items) where
@@ -54,8 +56,8 @@ module _ {V : Type 0} {T : V → Type 0} {form : FormOf V T} {settings : Setting
     here : P (by_grid (partition_object settings) skips s line).run → P (after_line (partition_object settings) skips s line).run
     here is = subst P (sym (ap (λ (x : RuledRun). x.run) (h.after skips) ∙ h.run skips)) is
 
-  pub alone_ran : (written text : List ℕ) → printed.HasRun form settings new.grid s.run line written text → HasRun form settings new s line written text
-  alone_ran written text ran =
+  pub alone_ran : (earlier later : List Told) → alone.HasRun form settings new.grid s.run line earlier later → HasRun form settings new s line earlier later
+  alone_ran earlier later ran =
       let k = ran.skips in
       let lines = bounds.line_lines (partition_object settings) k s.run line in
       let some = stands.some in
@@ -69,8 +71,12 @@ module _ {V : Type 0} {T : V → Type 0} {form : FormOf V T} {settings : Setting
         skips = k;
         of_line = here (λ r. AreAmong (new_arrivals s.run r) k) k ran.of_line;
         stands = subst (Stands form settings new) (sym (h.after k)) there;
-        added = ran.added ∙ ap (λ xs. written ++ xs) (sym (ap (λ x. line_text settings k s line x) (h.after k) ∙ h.text k ∙ ap (λ (r : Run). alone_text settings k s.run line r) (h.run k)));
+        added = ran.added ∙ ap (λ xs. earlier ++ xs) (sym (ap (λ x. line_told settings k s line x) (h.after k) ∙ h.tells k ∙ ap (λ (r : Run). alone_told settings k s.run line r) (h.run k)));
       }
+
+  -- with what it wrote
+  pub alone_gave : (earlier later : Ready) → alone.HasGiven form settings new.grid s.run line earlier later → HasGiven form settings new s line earlier later
+  alone_gave earlier later gave = record { told = alone_ran earlier.told.items later.told.items gave.told; printed = gave.printed }
 
   pub alone_up : alone.IsGivenUp settings s.run line → IsGivenUp settings s line
   alone_up up = record { skips = up.skips; of_line = here (λ r. AreAmong (new_arrivals s.run r) up.skips) up.skips up.of_line; full = here (λ r. r.full ≡ true) up.skips up.full }
@@ -83,7 +89,7 @@ module _ (settings : Settings) (s : RuledRun) (line : ScriptLine) (all : List Ma
     next = λ k. by_grid (partition_object settings) k s line;
     after = λ k. with_masters (partition_object settings) k s line ruled ∙ own.after k;
     run = λ k. refl;
-    text = λ k. text_with_masters settings k s line (by_grid (partition_object settings) k s line) ruled ∙ own.text k (by_grid (partition_object settings) k s line);
+    tells = λ k. told_with_masters settings k s line (by_grid (partition_object settings) k s line) ruled ∙ own.tells k (by_grid (partition_object settings) k s line);
     rules = λ k full rules. own_rules settings all k s line own.plain own.none rules;
   }
 
@@ -96,8 +102,8 @@ module _ (settings : Settings) (s : RuledRun) (line : ScriptLine) (all : List Ma
         next = λ k. by_grid (partition_object settings) k s line;
         after = λ k. with_masters (partition_object settings) k s line ruled ∙ its.after k ∙ goes_so k;
         run = λ k. refl;
-        text = λ k. text_with_masters settings k s line (by_grid (partition_object settings) k s line) ruled ∙ its.text k (by_grid (partition_object settings) k s line)
-            ∙ event_text settings s line e is nothing on low k (by_grid (partition_object settings) k s line) (bounds.line_lines (partition_object settings) k s.run line) (sym (goes_so k));
+        tells = λ k. told_with_masters settings k s line (by_grid (partition_object settings) k s line) ruled ∙ its.tells k (by_grid (partition_object settings) k s line)
+            ∙ event_tells settings s line e is nothing on low k (by_grid (partition_object settings) k s line) (sym (goes_so k));
         rules = λ k full rules. subst (Rules settings all) (goes_so k)
             (quiet_rules settings all k (counted s) e.partition (Asks e.event) ruled placed (asks_none settings s line e is nothing on low) (ap (λ (x : RuledRun). x.run.full) (goes_so k) ∙ full) (counted_rules settings all s rules));
       }
@@ -146,7 +152,7 @@ module _ (settings : Settings) (s : RuledRun) (m : ℕ) (all new : List Masters)
     next = λ k. goes_in (partition_object settings) k (counted s) l (numbers_below partitions);
     after = λ k. with_masters (partition_object settings) k s (ScriptLines.Crash m) ruled;
     run = λ k. crash_runs (partition_object settings) k m (counted s) (next_line s.run) (numbers_below partitions) refl;
-    text = λ k. text_with_masters settings k s (ScriptLines.Crash m) (goes_in (partition_object settings) k (counted s) l (numbers_below partitions)) ruled;
+    tells = λ k. told_with_masters settings k s (ScriptLines.Crash m) (goes_in (partition_object settings) k (counted s) l (numbers_below partitions)) ruled;
     rules = λ k full rules. goes_in_rules settings all new k (counted s) l crashed.count were_asked ruled full (counted_rules settings all s rules);
   }
 
@@ -155,7 +161,7 @@ module _ (settings : Settings) (s : RuledRun) (m : ℕ) (all new : List Masters)
 -- a line that is no `masters`, or comes later
 pub record IsUnruled (settings : Settings) (s : RuledRun) (line : ScriptLine) : Type 0 where
   pub after : (skips : List CallId) → unruled (partition_object settings) skips s line ≡ by_grid (partition_object settings) skips s line
-  pub text : (skips : List CallId) (next : RuledRun) → unruled_text settings skips s line next ≡ grid_text settings skips s line next
+  pub tells : (skips : List CallId) (next : RuledRun) → unruled_told settings skips s line next ≡ grid_told settings skips s line next
 
 module _ (settings : Settings) (s : RuledRun) (line : ScriptLine) (all : List Masters) (none : has_masters s ≡ false) where
   no_rules : (next : RuledRun) → next.masters ≡ s.masters → next.run.members ≡ s.run.members → Rules settings all s → Rules settings all next
@@ -173,7 +179,7 @@ module _ (settings : Settings) (s : RuledRun) (line : ScriptLine) (all : List Ma
     next = λ k. by_grid (partition_object settings) k s line;
     after = λ k. without_masters (partition_object settings) k s line none ∙ its.after k;
     run = λ k. refl;
-    text = λ k. text_without_masters settings k s line (by_grid (partition_object settings) k s line) none ∙ its.text k (by_grid (partition_object settings) k s line);
+    tells = λ k. told_without_masters settings k s line (by_grid (partition_object settings) k s line) none ∙ its.tells k (by_grid (partition_object settings) k s line);
     rules = λ k full rules. no_rules (by_grid (partition_object settings) k s line) refl ((counts.line_counted (partition_object settings) k s.run line).members) rules;
   }
 
@@ -182,13 +188,13 @@ masters_later settings s later =
     let is : (s.run.lines == 1) ≡ false = number_other s.run.lines 1 later in
     record {
       after = λ k. ap (λ b. cond b (record (counted s) { masters = opening_masters s.run.members }) (by_grid (partition_object settings) k s ScriptLines.Masters)) is;
-      text = λ k next. ap (λ b. cond b (ok_text next.run.lines) (nothing_text next.run.lines)) is;
+      tells = λ k next. ap (λ b. came_to (cond b Ran Idle)) is;
     }
 
 -- each line but `masters` is the grid's
 pub is_unruled : (settings : Settings) (s : RuledRun) (l : ScriptLine) → l ≢ ScriptLines.Masters → IsUnruled settings s l
 is_unruled settings s ScriptLines.Masters other = absurd (other refl)
-is_unruled settings s l other = record { after = λ k. refl; text = λ k next. refl }
+is_unruled settings s l other = record { after = λ k. refl; tells = λ k next. refl }
 
 pub unruled_as : (settings : Settings) (s : RuledRun) (l : ScriptLine) → l ≡ ScriptLines.Masters → IsUnruled settings s ScriptLines.Masters → IsUnruled settings s l
 unruled_as settings s l same = subst (IsUnruled settings s) (sym same)

@@ -1,10 +1,11 @@
 -- A line with masters that goes on step by step, each step with skips of its own: with the skips of all of them it goes the same way, and says the same.
-use Rattle.std.proofs.Common.{◌≡◌, ◌≢◌, Bool, true, false, ◌||◌, List, [], ◌++◌, map, Contains, append_assoc, append-nil, refl, ap, sym, ◌∙◌, subst, ⊎_elim, ℕ}
+use Rattle.std.proofs.Common.{◌≡◌, ◌≢◌, Bool, true, false, ◌||◌, List, [], ◌++◌, map, Contains, append_assoc, append-nil, refl, ap, sym, ◌∙◌, subst, ⊎_elim}
 use Rattle.grid_base.specs.declared.names.CallId.{CallId}
 use Rattle.call_engine.specs.Calls.{Settings}
 use Rattle.call_engine.specs.Objects.{partition_object}
 use Rattle.partition_protocol.specs.Arrivals.{NamedOnce}
 use Rattle.partition_protocol.proofs.Lists.{In, in_left, in_right, in_cases, in_contains, contains_in}
+use Rattle.line_told.specs.declared.told.Told.{Told}
 use Rattle.replay_run.specs.Runs.{Run, Arrival, is_skipped}
 use Rattle.replay_run.specs.Endings.{AreAmong, new_arrivals}
 use Rattle.replay_run.specs.Grids.{FormOf}
@@ -18,7 +19,7 @@ use Rattle.replay_run.proofs.RunsOfLines.{run_ok}
 use Rattle.replay_run.proofs.SkipLaws.{skipped_by_either, not_skipped, unless_same, new_of}
 use Rattle.masters_run.specs.declared.grid.RuledGrid.{RuledGrid}
 use Rattle.masters_run.specs.Runs.{RuledRun}
-use Rattle.masters_run.specs.Steps.{IsAmid, Onward, Texts, HasGoneOn, GivesUp}
+use Rattle.masters_run.specs.Steps.{IsAmid, Onward, Tellings, HasGoneOn, GivesUp}
 use Rattle.masters_run.proofs.RuledGrowing.{RuledGoesBy}
 
 -- two lists of skips
@@ -81,24 +82,24 @@ pub tried_alike : (r : Run) (onward : List CallId → Run) (g : GoesBy r onward)
 tried_alike r onward g k t all a i = all a (contains_in a (new_arrivals r (onward k)) (subst (In a) (sym (new_of r (onward k) (g.grows k).arrivals)) (g.come k a i)))
 
 -- A run with masters goes on by the skips, and what it says asks no more of them.
-pub record TellsBy (s : RuledRun) (onward : Onward) (texts : Texts) : Type 0 where
+pub record TellsBy (s : RuledRun) (onward : Onward) (tellings : Tellings) : Type 0 where
   pub by : RuledGoesBy s onward
-  pub alike : (k t : List CallId) → AgreeOn (new_arrivals s.run (onward k).run) k t → texts k ≡ texts t
+  pub alike : (k t : List CallId) → AgreeOn (new_arrivals s.run (onward k).run) k t → tellings k ≡ tellings t
 
 pub same_run : {s : RuledRun} {onward : Onward} (g : RuledGoesBy s onward) (k t : List CallId) → AgreeOn (new_arrivals s.run (onward k).run) k t → onward k ≡ onward t
 same_run {s = s} {onward = onward} g k t agree = g.alike k t (tried_alike s.run (λ x. (onward x).run) g.by k t agree)
 
 -- where what it says is told by where it leads
-pub tells_by_run : (s : RuledRun) (onward : Onward) (said : RuledRun → List ℕ) → RuledGoesBy s onward → TellsBy s onward (λ k. said (onward k))
+pub tells_by_run : (s : RuledRun) (onward : Onward) (said : RuledRun → List Told) → RuledGoesBy s onward → TellsBy s onward (λ k. said (onward k))
 tells_by_run s onward said g = record { by = g; alike = λ k t agree. ap said (same_run g k t agree) }
 
 -- One step, and then another from where that leads.
-module _ (settings : Settings) (s : RuledRun) (first : Onward) (then : RuledRun → Onward) (texts : Texts) (more : RuledRun → Texts) (g : TellsBy s first texts) (h : (x : RuledRun) → TellsBy x (then x) (more x)) where
+module _ (settings : Settings) (s : RuledRun) (first : Onward) (then : RuledRun → Onward) (tellings : Tellings) (more : RuledRun → Tellings) (g : TellsBy s first tellings) (h : (x : RuledRun) → TellsBy x (then x) (more x)) where
   -- the skips of both parts lead and say the same
   pub record GoSame (a b both : List CallId) : Type 0 where
     pub first_same : first both ≡ first a
     pub then_same : then (first both) both ≡ then (first a) b
-    pub first_told : texts both ≡ texts a
+    pub first_told : tellings both ≡ tellings a
     pub agrees : AgreeOn (new_arrivals s.run (first a).run) a both
     pub then_told : more (first both) both ≡ more (first a) b
     pub among : AreAmong (new_arrivals s.run (then (first both) both).run) both
@@ -123,12 +124,12 @@ module _ (settings : Settings) (s : RuledRun) (first : Onward) (then : RuledRun 
           among = subst (λ (x : RuledRun). AreAmong (new_arrivals s.run x.run) (a ++ b)) (sym same_then) (both_among s.run mid.run last.run up on once a b of_first of_then);
         }
 
-  module _ {V : Type 0} {T : V → Type 0} {form : FormOf V T} (mid new : RuledGrid V T) (written so_far text : List ℕ) (a : HasGoneOn form settings mid s first texts written so_far) where
+  module _ {V : Type 0} {T : V → Type 0} {form : FormOf V T} (mid new : RuledGrid V T) (earlier so_far later : List Told) (a : HasGoneOn form settings mid s first tellings earlier so_far) where
     abbrev pub GoesFrom : Type 0
-    GoesFrom = HasGoneOn form settings new (first a.skips) (then (first a.skips)) (more (first a.skips)) so_far text
+    GoesFrom = HasGoneOn form settings new (first a.skips) (then (first a.skips)) (more (first a.skips)) so_far later
 
     pub record HasGoneFurther (b : GoesFrom) : Type 0 where
-      pub on : HasGoneOn form settings new s (λ k. then (first k) k) (λ k. texts k ++ more (first k) k) written text
+      pub on : HasGoneOn form settings new s (λ k. then (first k) k) (λ k. tellings k ++ more (first k) k) earlier later
       pub same : GoSame a.skips b.skips on.skips
 
     pub gone_further : (b : GoesFrom) → HasGoneFurther b
@@ -136,13 +137,13 @@ module _ (settings : Settings) (s : RuledRun) (first : Onward) (then : RuledRun 
         let once : ArrivalsOk (then (first a.skips) b.skips).run = (run_ok b.amid.grid.run).of_arrivals in
         let both = a.skips ++ b.skips in
         let same = go_same a.skips b.skips once a.own b.own in
-        let told : written ++ (texts both ++ more (first both) both) ≡ written ++ (texts a.skips ++ more (first a.skips) b.skips) = λ i. written ++ (same.first_told i ++ same.then_told i) in
+        let told : earlier ++ (tellings both ++ more (first both) both) ≡ earlier ++ (tellings a.skips ++ more (first a.skips) b.skips) = λ i. earlier ++ (same.first_told i ++ same.then_told i) in
         record {
           on = record {
             skips = both;
             own = same.among;
             amid = subst (IsAmid form settings new) (sym same.then_same) b.amid;
-            added = b.added ∙ ap (λ xs. xs ++ more (first a.skips) b.skips) a.added ∙ append_assoc written (texts a.skips) (more (first a.skips) b.skips)
+            added = b.added ∙ ap (λ xs. xs ++ more (first a.skips) b.skips) a.added ∙ append_assoc earlier (tellings a.skips) (more (first a.skips) b.skips)
                 ∙ sym told;
           };
           same = same;
@@ -166,29 +167,29 @@ module _ (settings : Settings) (s : RuledRun) (first : Onward) (then : RuledRun 
       }
 
 -- nowhere yet
-pub gone_nowhere : {V : Type 0} {T : V → Type 0} {form : FormOf V T} {settings : Settings} (grid : RuledGrid V T) (s : RuledRun) (text : List ℕ) → IsAmid form settings grid s → HasGoneOn form settings grid s (λ k. s) (λ k. []) text text
-gone_nowhere grid s text amid = record { skips = []; own = λ id c. absurd (in_contains id [] c); amid = amid; added = sym (append-nil text) }
+pub gone_nowhere : {V : Type 0} {T : V → Type 0} {form : FormOf V T} {settings : Settings} (grid : RuledGrid V T) (s : RuledRun) (later : List Told) → IsAmid form settings grid s → HasGoneOn form settings grid s (λ k. s) (λ k. []) later later
+gone_nowhere grid s later amid = record { skips = []; own = λ id c. absurd (in_contains id [] c); amid = amid; added = sym (append-nil later) }
 
 -- the same by other names of where it leads and of what it says
-pub record SameSteps (first other : Onward) (texts also : Texts) : Type 0 where
+pub record SameSteps (first other : Onward) (tellings also : Tellings) : Type 0 where
   pub leads : (k : List CallId) → first k ≡ other k
-  pub says : (k : List CallId) → texts k ≡ also k
+  pub says : (k : List CallId) → tellings k ≡ also k
 
 -- at the skips by which it has gone
-pub gone_at : {V : Type 0} {T : V → Type 0} {form : FormOf V T} {settings : Settings} {new : RuledGrid V T} {s : RuledRun} {first other : Onward} {texts also : Texts} {written text : List ℕ}
-    → (a : HasGoneOn form settings new s first texts written text) → first a.skips ≡ other a.skips → texts a.skips ≡ also a.skips → (c : HasGoneOn form settings new s other also written text) × (c.skips ≡ a.skips)
-gone_at {form = form} {settings = settings} {new = new} {s = s} {written = written} a leads says = (
+pub gone_at : {V : Type 0} {T : V → Type 0} {form : FormOf V T} {settings : Settings} {new : RuledGrid V T} {s : RuledRun} {first other : Onward} {tellings also : Tellings} {earlier later : List Told}
+    → (a : HasGoneOn form settings new s first tellings earlier later) → first a.skips ≡ other a.skips → tellings a.skips ≡ also a.skips → (c : HasGoneOn form settings new s other also earlier later) × (c.skips ≡ a.skips)
+gone_at {form = form} {settings = settings} {new = new} {s = s} {earlier = earlier} a leads says = (
   record {
     skips = a.skips;
     own = subst (λ (x : RuledRun). AreAmong (new_arrivals s.run x.run) a.skips) leads a.own;
     amid = subst (IsAmid form settings new) leads a.amid;
-    added = a.added ∙ ap (λ xs. written ++ xs) says;
+    added = a.added ∙ ap (λ xs. earlier ++ xs) says;
   },
   refl,
 )
 
-pub gone_as : {V : Type 0} {T : V → Type 0} {form : FormOf V T} {settings : Settings} {new : RuledGrid V T} {s : RuledRun} {first other : Onward} {texts also : Texts} {written text : List ℕ} → SameSteps first other texts also
-    → (a : HasGoneOn form settings new s first texts written text) → (c : HasGoneOn form settings new s other also written text) × (c.skips ≡ a.skips)
+pub gone_as : {V : Type 0} {T : V → Type 0} {form : FormOf V T} {settings : Settings} {new : RuledGrid V T} {s : RuledRun} {first other : Onward} {tellings also : Tellings} {earlier later : List Told} → SameSteps first other tellings also
+    → (a : HasGoneOn form settings new s first tellings earlier later) → (c : HasGoneOn form settings new s other also earlier later) × (c.skips ≡ a.skips)
 gone_as same a = gone_at a (same.leads a.skips) (same.says a.skips)
 
 pub up_as : {s : RuledRun} {first other : Onward} → ((k : List CallId) → first k ≡ other k) → GivesUp s first → GivesUp s other

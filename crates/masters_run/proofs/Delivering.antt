@@ -17,21 +17,23 @@ use Rattle.partition_world.specs.declared.Link.{Link}
 use Rattle.partition_world.specs.declared.event.Happened.{Happened}
 use Rattle.partition_world.specs.LinkOrder.{links_of, is_busy}
 use Rattle.masters_world.specs.Machine.{Asks, asked_by, at_once_of}
+use Rattle.line_told.specs.declared.told.Told.{Told}
 use Rattle.replay_run.specs.Runs.{Run, partitions, world_at, delivery_on, takes}
 use Rattle.replay_run.specs.Appending.{new_messages}
 use Rattle.replay_run.specs.Endings.{AreAmong, new_arrivals}
 use Rattle.replay_run.specs.Printing.{deliveries}
 use Rattle.replay_run.specs.Grids.{FormOf}
-use Rattle.replay_run.specs.WorldCalls.{texts_of, GivesUpSo}
-use Rattle.replay_run.specs.AsText as printed
+use Rattle.replay_run.specs.LineTold.{all_told}
+use Rattle.replay_run.specs.WorldCalls.{GivesUpSo}
+use Rattle.replay_run.specs.WorldCalls as grid
 use Rattle.replay_run.proofs.Flowing.{delivered, deliveries_are, deliveries_counted, had_room, took_one}
 use Rattle.replay_run.proofs.Growing.{Grows}
-use Rattle.replay_run.proofs.LineTexts.{texts-append, new_with}
+use Rattle.replay_run.proofs.LineTexts.{told-append, new_with}
 use Rattle.replay_run.proofs.Trails.{find_some}
 use Rattle.masters_run.specs.declared.grid.RuledGrid.{RuledGrid}
 use Rattle.masters_run.specs.Runs.{RuledRun, has_masters, ruled_at, takes_each, goes, is_to_member, link_to_member, flowed, flowed_in}
 use Rattle.masters_run.specs.Grids.{Rules}
-use Rattle.masters_run.specs.Steps.{IsAmid, Onward, Texts, HasGoneOn, GivesUp, HasFlowed}
+use Rattle.masters_run.specs.Steps.{IsAmid, Onward, Tellings, HasGoneOn, GivesUp, delivering, HasFlowed}
 use Rattle.masters_run.proofs.RuledRuns.{flowed_on}
 use Rattle.masters_run.proofs.RuledGrowing.{flowed_goes, flowed_in_goes}
 use Rattle.masters_run.proofs.RuleLemmas.{quiet_rules}
@@ -47,12 +49,12 @@ new_messages_both r mid last (first, a) (then, b) =
     ap (λ ms. drop (length r.appended) ms) (sym whole) ∙ drop-append_seam r.appended (first ++ then)
     ∙ sym (λ i. (ap (λ ms. drop (length r.appended) ms) (sym a) ∙ drop-append_seam r.appended first) i ++ (ap (λ ms. drop (length mid.appended) ms) (sym b) ∙ drop-append_seam mid.appended then) i)
 
--- the texts of what was appended since
-abbrev pub told_since : RuledRun → RuledRun → List ℕ
-told_since s next = texts_of (new_messages s.run next.run)
+-- what was appended since, as it is told
+abbrev pub told_since : RuledRun → RuledRun → List Told
+told_since s next = all_told (new_messages s.run next.run)
 
 told_both : (s mid last : RuledRun) → Grows s.run mid.run → Grows mid.run last.run → told_since s last ≡ told_since s mid ++ told_since mid last
-told_both s mid last a b = ap texts_of (new_messages_both s.run mid.run last.run a.appended b.appended) ∙ texts-append (new_messages s.run mid.run) (new_messages mid.run last.run)
+told_both s mid last a b = ap all_told (new_messages_both s.run mid.run last.run a.appended b.appended) ∙ told-append (new_messages s.run mid.run) (new_messages mid.run last.run)
 
 -- a delivery to a member
 
@@ -94,22 +96,19 @@ module _ (o : Object Request Partition) (skips : List CallId) where
       go (Some l) some parts = flowed_some s p all l some ∙ parts (goes o skips s p (Asks (delivery_on l))) ∙ sym (ap (λ x. flowed o skips x p b) (flowed_some s p a l some))
 
 -- Of a flow of one partition so many messages were delivered.
-pub record HasDelivered {V : Type 0} {T : V → Type 0} (form : FormOf V T) (settings : Settings) (grid : RuledGrid V T) (s : RuledRun) (p number : ℕ) (written text : List ℕ) : Type 0 where
-  pub on : HasGoneOn form settings grid s (λ k. flowed (partition_object settings) k s p number) (λ k. told_since s (flowed (partition_object settings) k s p number)) written text
+pub record HasDelivered {V : Type 0} {T : V → Type 0} (form : FormOf V T) (settings : Settings) (grid : RuledGrid V T) (s : RuledRun) (p number : ℕ) (earlier later : List Told) : Type 0 where
+  pub on : HasGoneOn form settings grid s (λ k. flowed (partition_object settings) k s p number) (λ k. told_since s (flowed (partition_object settings) k s p number)) earlier later
   pub counts : delivered (flowed (partition_object settings) on.skips s p number).run ≡ delivered s.run + number
 
-abbrev pub delivering : Settings → RuledRun → ℕ → ℕ → Onward
-delivering settings s p n skips = flowed (partition_object settings) skips s p n
-
-abbrev pub told_by : Settings → RuledRun → ℕ → ℕ → Texts
+abbrev pub told_by : Settings → RuledRun → ℕ → ℕ → Tellings
 told_by settings s p n skips = told_since s (delivering settings s p n skips)
 
 none_since : (s : RuledRun) → told_since s s ≡ []
-none_since s = ap texts_of (drop_all (length s.run.appended) s.run.appended (omega arith))
+none_since s = ap all_told (drop_all (length s.run.appended) s.run.appended (omega arith))
 
-pub none_delivered : {V : Type 0} {T : V → Type 0} {form : FormOf V T} {settings : Settings} (grid : RuledGrid V T) (s : RuledRun) (p : ℕ) (text : List ℕ) → IsAmid form settings grid s → HasDelivered form settings grid s p 0 text text
-none_delivered grid s p text amid = record {
-  on = record { skips = []; own = λ id c. absurd (in_contains id [] c); amid = amid; added = sym (append-nil text) ∙ ap (λ xs. text ++ xs) (sym (none_since s)) };
+pub none_delivered : {V : Type 0} {T : V → Type 0} {form : FormOf V T} {settings : Settings} (grid : RuledGrid V T) (s : RuledRun) (p : ℕ) (later : List Told) → IsAmid form settings grid s → HasDelivered form settings grid s p 0 later later
+none_delivered grid s p later amid = record {
+  on = record { skips = []; own = λ id c. absurd (in_contains id [] c); amid = amid; added = sym (append-nil later) ∙ ap (λ xs. later ++ xs) (sym (none_since s)) };
   counts = omega arith;
 }
 
@@ -130,16 +129,16 @@ module _ (settings : Settings) (s : RuledRun) (p : ℕ) where
         sym (told_both s mid last ((flowed_goes o s p a).by.grows k) ((flowed_goes o mid p b).by.grows k)) ∙ ap (told_since s) (sym (flowed_parts o k s p a b all e)));
   }
 
-  module _ {V : Type 0} {T : V → Type 0} {form : FormOf V T} (mid : RuledGrid V T) (number : ℕ) (written so_far : List ℕ) (did : HasDelivered form settings mid s p number written so_far) where
+  module _ {V : Type 0} {T : V → Type 0} {form : FormOf V T} (mid : RuledGrid V T) (number : ℕ) (earlier so_far : List Told) (did : HasDelivered form settings mid s p number earlier so_far) where
     -- the run by then
     abbrev pub by_then : RuledRun
     by_then = delivering settings s p number did.on.skips
 
-    pub delivered_so : HasFlowed form settings mid s p number number written so_far
+    pub delivered_so : HasFlowed form settings mid s p number number earlier so_far
     delivered_so = record { on = did.on; deliveries = deliveries_are s.run by_then.run number ((flowed_goes o s p number).by.grows did.on.skips).events did.counts }
 
     -- No message to a member is left.
-    pub none_left : link_to_member (world_at o by_then.run p) ≡ None → (most : ℕ) → number ≤ most → HasFlowed form settings mid s p most number written so_far
+    pub none_left : link_to_member (world_at o by_then.run p) ≡ None → (most : ℕ) → number ≤ most → HasFlowed form settings mid s p most number earlier so_far
     none_left none most below =
         let k = did.on.skips in
         let same : by_then ≡ delivering settings s p most k = sym (flowed_parts o k s p number (most - number) most (omega (arith, below)) ∙ flowed_none o k by_then p (most - number) none) in
@@ -158,9 +157,9 @@ module _ (settings : Settings) (s : RuledRun) (p : ℕ) where
       one_step k = flowed_some o k by_then p zero l next ∙ delivery_goes o by_then p l next k low
 
       module _ (is_ruled : has_masters by_then ≡ true) (placed : p < partitions) where
-        taken_on : (new : RuledGrid V T) → new.masters ≡ mid.masters → (e : Event Request) → e ≡ delivery_on l → (happened : Happened) (text : List ℕ) → printed.HasTaken form settings new.grid by_then.run p e happened so_far text
-            → HasGoneOn form settings new by_then (delivering settings by_then p (suc zero)) (told_by settings by_then p (suc zero)) so_far text
-        taken_on new kept e is happened text taken =
+        taken_on : (new : RuledGrid V T) → new.masters ≡ mid.masters → (e : Event Request) → e ≡ delivery_on l → (happened : Happened) (later : List Told) → grid.HasTaken form settings new.grid by_then.run p e happened so_far later
+            → HasGoneOn form settings new by_then (delivering settings by_then p (suc zero)) (told_by settings by_then p (suc zero)) so_far later
+        taken_on new kept e is happened later taken =
             let k = taken.on.skips in
             let next_run = takes o k by_then.run p e in
             let same : delivering settings by_then p (suc zero) k ≡ record by_then { run = next_run } = one_step k ∙ ap (λ x. record by_then { run = takes o k by_then.run p x }) (sym is) in
@@ -174,14 +173,14 @@ module _ (settings : Settings) (s : RuledRun) (p : ℕ) where
                 grid = taken.on.on.amid;
                 masters = subst (λ ms. Rules settings ms (record by_then { run = next_run })) (ap (λ ms. ms.items) (sym kept)) (subst (Rules settings mid.masters.items) its rules);
               });
-              added = taken.on.on.added ∙ ap (λ ms. so_far ++ texts_of ms) (sym (new_with by_then.run next_run taken.on.on.messages taken.on.on.appended)) ∙ ap (λ (x : RuledRun). so_far ++ told_since by_then x) (sym same);
+              added = taken.on.on.added ∙ ap (λ ms. so_far ++ all_told ms) (sym (new_with by_then.run next_run taken.on.on.messages taken.on.on.appended)) ∙ ap (λ (x : RuledRun). so_far ++ told_since by_then x) (sym same);
             }
 
-        pub one_delivered : (new : RuledGrid V T) → new.masters ≡ mid.masters → (e : Event Request) → e ≡ delivery_on l → (happened : Happened) (text : List ℕ) → printed.HasTaken form settings new.grid by_then.run p e happened so_far text
-            → HasDelivered form settings new s p (number + 1) written text
-        one_delivered new kept e is happened text taken =
-            let step = taken_on new kept e is happened text taken in
-            let whole = gone_further settings s (delivering settings s p number) (λ x. delivering settings x p (suc zero)) (told_by settings s p number) (λ x. told_by settings x p (suc zero)) (so_tells s number) (λ x. so_tells x (suc zero)) mid new written so_far text did.on step in
+        pub one_delivered : (new : RuledGrid V T) → new.masters ≡ mid.masters → (e : Event Request) → e ≡ delivery_on l → (happened : Happened) (later : List Told) → grid.HasTaken form settings new.grid by_then.run p e happened so_far later
+            → HasDelivered form settings new s p (number + 1) earlier later
+        one_delivered new kept e is happened later taken =
+            let step = taken_on new kept e is happened later taken in
+            let whole = gone_further settings s (delivering settings s p number) (λ x. delivering settings x p (suc zero)) (told_by settings s p number) (λ x. told_by settings x p (suc zero)) (so_tells s number) (λ x. so_tells x (suc zero)) mid new earlier so_far later did.on step in
             let parts = so_parts number (suc zero) (number + 1) (omega arith) in
             let all = gone_as parts whole.on in
             let k = taken.on.skips in
@@ -204,7 +203,7 @@ module _ (settings : Settings) (s : RuledRun) (p : ℕ) where
             let far = up_as (λ k. sym (flowed_parts o k by_then p (suc zero) rest (suc rest) (omega arith)))
             (gives_up_first settings by_then (delivering settings by_then p (suc zero)) (λ x. delivering settings x p rest) (told_by settings by_then p (suc zero)) (λ x. told_by settings x p rest) (so_tells by_then (suc zero)) (λ x. so_tells x rest) up) in
             up_as (so_parts number (suc rest) most (omega (arith, below))).leads
-            (gives_up_then settings s (delivering settings s p number) (λ x. delivering settings x p (suc rest)) (told_by settings s p number) (λ x. told_by settings x p (suc rest)) (so_tells s number) (λ x. so_tells x (suc rest)) mid mid written so_far [] did.on far
+            (gives_up_then settings s (delivering settings s p number) (λ x. delivering settings x p (suc rest)) (told_by settings s p number) (λ x. told_by settings x p (suc rest)) (so_tells s number) (λ x. so_tells x (suc rest)) mid mid earlier so_far [] did.on far
             (λ t. flowed_run o t by_then p (suc rest) did.on.amid.grid.run))
 
 -- in the first partitions
@@ -212,17 +211,17 @@ module _ (settings : Settings) (s : RuledRun) (p : ℕ) where
 abbrev pub delivering_in : Settings → RuledRun → ℕ → ℕ → Onward
 delivering_in settings s most n skips = flowed_in (partition_object settings) skips s most (numbers_below n)
 
-abbrev pub told_in : Settings → RuledRun → ℕ → ℕ → Texts
+abbrev pub told_in : Settings → RuledRun → ℕ → ℕ → Tellings
 told_in settings s most n skips = told_since s (delivering_in settings s most n skips)
 
 -- So many messages were delivered there.
-pub record HasFlowedIn {V : Type 0} {T : V → Type 0} (form : FormOf V T) (settings : Settings) (grid : RuledGrid V T) (s : RuledRun) (most n count : ℕ) (written text : List ℕ) : Type 0 where
-  pub on : HasGoneOn form settings grid s (delivering_in settings s most n) (told_in settings s most n) written text
+pub record HasFlowedIn {V : Type 0} {T : V → Type 0} (form : FormOf V T) (settings : Settings) (grid : RuledGrid V T) (s : RuledRun) (most n count : ℕ) (earlier later : List Told) : Type 0 where
+  pub on : HasGoneOn form settings grid s (delivering_in settings s most n) (told_in settings s most n) earlier later
   pub counts : delivered (delivering_in settings s most n on.skips).run ≡ delivered s.run + count
 
-pub none_in : {V : Type 0} {T : V → Type 0} {form : FormOf V T} {settings : Settings} (grid : RuledGrid V T) (s : RuledRun) (most : ℕ) (text : List ℕ) → IsAmid form settings grid s → HasFlowedIn form settings grid s most 0 0 text text
-none_in grid s most text amid = record {
-  on = record { skips = []; own = λ id c. absurd (in_contains id [] c); amid = amid; added = sym (append-nil text) ∙ ap (λ xs. text ++ xs) (sym (none_since s)) };
+pub none_in : {V : Type 0} {T : V → Type 0} {form : FormOf V T} {settings : Settings} (grid : RuledGrid V T) (s : RuledRun) (most : ℕ) (later : List Told) → IsAmid form settings grid s → HasFlowedIn form settings grid s most 0 0 later later
+none_in grid s most later amid = record {
+  on = record { skips = []; own = λ id c. absurd (in_contains id [] c); amid = amid; added = sym (append-nil later) ∙ ap (λ xs. later ++ xs) (sym (none_since s)) };
   counts = omega arith;
 }
 
@@ -246,15 +245,15 @@ module _ (settings : Settings) (s : RuledRun) (most : ℕ) where
       leads : (k : List CallId) → delivering settings (delivering_in settings s most n k) n most k ≡ delivering_in settings s most (n + 1) k
       leads k = let one : suc n ≡ n + 1 = omega arith in sym (flowed_in-append (partition_object settings) k s most (numbers_below n) (n ∷ [])) ∙ ap (λ m. delivering_in settings s most m k) one
 
-  module _ {V : Type 0} {T : V → Type 0} {form : FormOf V T} (mid new : RuledGrid V T) (n count : ℕ) (written so_far : List ℕ) (did : HasFlowedIn form settings mid s most n count written so_far) where
+  module _ {V : Type 0} {T : V → Type 0} {form : FormOf V T} (mid new : RuledGrid V T) (n count : ℕ) (earlier so_far : List Told) (did : HasFlowedIn form settings mid s most n count earlier so_far) where
     -- the run by then
     abbrev pub flowed_by_then : RuledRun
     flowed_by_then = delivering_in settings s most n did.on.skips
 
     -- and in one more
-    pub flowed_in_more : (more : ℕ) (text : List ℕ) → HasFlowed form settings new flowed_by_then n most more so_far text → HasFlowedIn form settings new s most (n + 1) (count + more) written text
-    flowed_in_more more text flow =
-        let whole = gone_further settings s (delivering_in settings s most n) (λ x. delivering settings x n most) (told_in settings s most n) (λ x. told_by settings x n most) (in_tells n) (λ x. so_tells settings s n x most) mid new written so_far text did.on flow.on in
+    pub flowed_in_more : (more : ℕ) (later : List Told) → HasFlowed form settings new flowed_by_then n most more so_far later → HasFlowedIn form settings new s most (n + 1) (count + more) earlier later
+    flowed_in_more more later flow =
+        let whole = gone_further settings s (delivering_in settings s most n) (λ x. delivering settings x n most) (told_in settings s most n) (λ x. told_by settings x n most) (in_tells n) (λ x. so_tells settings s n x most) mid new earlier so_far later did.on flow.on in
         let all = gone_as (in_same n) whole.on in
         let next = delivering settings flowed_by_then n most flow.on.skips in
         let last : (delivering_in settings s most (n + 1) all.0.skips).run ≡ next.run =
@@ -268,7 +267,7 @@ module _ (settings : Settings) (s : RuledRun) (most : ℕ) where
     -- or it is given up there
     pub gives_up_in : (all : ℕ) → n < all → GivesUp flowed_by_then (delivering settings flowed_by_then n most) → GivesUp s (delivering_in settings s most all)
     gives_up_in all below b =
-        let now = gives_up_then settings s (delivering_in settings s most n) (λ x. delivering settings x n most) (told_in settings s most n) (λ x. told_by settings x n most) (in_tells n) (λ x. so_tells settings s n x most) mid new written so_far [] did.on b
+        let now = gives_up_then settings s (delivering_in settings s most n) (λ x. delivering settings x n most) (told_in settings s most n) (λ x. told_by settings x n most) (in_tells n) (λ x. so_tells settings s n x most) mid new earlier so_far [] did.on b
         (λ t. flowed_run (partition_object settings) t flowed_by_then n most did.on.amid.grid.run) in
         rest (all - (n + 1)) all (omega (arith, below)) (up_as (in_same n).leads now)
       where

@@ -9,15 +9,17 @@ use Rattle.call_engine.specs.Objects.{partition_object}
 use Rattle.partition_protocol.specs.Service.{numbers_below}
 use Rattle.partition_protocol.proofs.RowFacts.{less, not_less}
 use Rattle.partition_world.specs.declared.Link.{Link}
+use Rattle.line_told.specs.declared.told.LineOutcome.TheVariants.{Flowed}
 use Rattle.master_log.specs.declared.masters.Masters.{Masters}
 use Rattle.masters_protocol.specs.Machine as masters
 use Rattle.masters_world.specs.Machine.{Asks, start, asked}
 use Rattle.masters_world.proofs.Theorem.{masters_go}
 use Rattle.script_lang.specs.Limits.{most_lines}
+use Rattle.line_told.specs.declared.told.Told.{Told}
 use Rattle.replay_run.specs.Runs.{partitions, world_at, delivery_on, next_line}
 use Rattle.script_lang.specs.declared.line.Line.TheVariants.{Flow, FlowAll, MasterFlow}
 use Rattle.replay_run.specs.Grids.{FormOf}
-use Rattle.replay_run.specs.Printing.{flow_text}
+use Rattle.replay_run.specs.LineTold.{came_to}
 use Rattle.replay_run.specs.WorldCalls.{HasRoomAt}
 use Rattle.replay_run.proofs.Flowing.{deliveries_are}
 use Rattle.replay_run.proofs.LineEnds.{line_has_room}
@@ -25,7 +27,7 @@ use Rattle.replay_run.proofs.TakenApart.{room_after, few_none}
 use Rattle.masters_run.specs.declared.grid.RuledGrid.{RuledGrid}
 use Rattle.masters_run.specs.Runs.{RuledRun, has_masters, masters_at, goes, link_to_member, flowed, flowed_in, link_between, handing_over, flowed_between, counted}
 use Rattle.masters_run.specs.AfterLines.{after_line}
-use Rattle.masters_run.specs.Printing.{followed_each}
+use Rattle.masters_run.specs.LineTold.{followed_each}
 use Rattle.masters_run.specs.Grids.{Rules, Stands, HasRun, IsGivenUp}
 use Rattle.masters_run.specs.Steps.{IsAmid, MayAsk, MayFlow, GivesUp, HasFlowed, HasFlowedBetween}
 use Rattle.masters_run.proofs.Coming.{HaveCome, AllHaveCome, beyond}
@@ -33,7 +35,7 @@ use Rattle.masters_run.proofs.Delivering.{HasDelivered, HasFlowedIn, told_since,
 use Rattle.masters_run.proofs.FewEvents.{between_few, flowed_few, flowed_in_few}
 use Rattle.masters_run.proofs.Going.{goes_count}
 use Rattle.masters_run.proofs.HandingOver.{HasHandedOver, handed_by_then, all_handed}
-use Rattle.masters_run.proofs.LineParts.{with_masters, text_with_masters, line_ran, line_given_up}
+use Rattle.masters_run.proofs.LineParts.{with_masters, told_with_masters, line_ran, line_given_up}
 use Rattle.masters_run.proofs.MastersAsked.{some_are}
 use Rattle.masters_run.proofs.RuledGrowing.{flowed_in_goes}
 use Rattle.masters_run.proofs.RuledRuns.{flowed_on, between_on}
@@ -82,49 +84,49 @@ module _ {V : Type 0} {T : V → Type 0} {form : FormOf V T} where
   whole_by all p most may s amid = sym amid.masters.count ∙ may.amid.masters.count ∙ may.amid.masters.ruled may.ruled
 
   -- so many messages of the masters were handed over
-  module _ (all mid : RuledGrid V T) (p most number : ℕ) (written so_far : List ℕ) (may : MayFlow form all p most) (did : HasHandedOver form may.settings mid may.run p number written so_far) where
+  module _ (all mid : RuledGrid V T) (p most number : ℕ) (earlier so_far : List Told) (may : MayFlow form all p most) (did : HasHandedOver form may.settings mid may.run p number earlier so_far) where
     pub may_hand : number < most → MayAsk form mid p
     may_hand below =
         let o = partition_object may.settings in
         let few = between_few o did.on.skips may.run.run.members may.run p number (rules_come may.run may.amid.masters may.ruled) in
         record {
           settings = may.settings;
-          run = handed_by_then may.settings may.run p mid number written so_far did;
+          run = handed_by_then may.settings may.run p mid number earlier so_far did;
           amid = did.on.amid;
-          ruled = some_are (handed_by_then may.settings may.run p mid number written so_far did).masters (between_count o did.on.skips may.run p number ∙ may.amid.masters.ruled may.ruled);
+          ruled = some_are (handed_by_then may.settings may.run p mid number earlier so_far did).masters (between_count o did.on.skips may.run p number ∙ may.amid.masters.ruled may.ruled);
           placed = may.placed;
           room = room_after few.few p 1 (let room = may.room in omega (arith, room, below));
         }
 
-  pub handed_all : {settings : Settings} (s : RuledRun) (mid : RuledGrid V T) (p number : ℕ) (written so_far : List ℕ) → HasHandedOver form settings mid s p number written so_far → (most : ℕ) → number ≤ most → most ≤ number
-      → HasFlowedBetween form settings mid s p most number written so_far
-  handed_all {settings} s mid p number written so_far did most below past =
+  pub handed_all : {settings : Settings} (s : RuledRun) (mid : RuledGrid V T) (p number : ℕ) (earlier so_far : List Told) → HasHandedOver form settings mid s p number earlier so_far → (most : ℕ) → number ≤ most → most ≤ number
+      → HasFlowedBetween form settings mid s p most number earlier so_far
+  handed_all {settings} s mid p number earlier so_far did most below past =
       let same : number ≡ most = omega (arith, below, past) in
-      subst (λ m. HasFlowedBetween form settings mid s p m number written so_far) same (all_handed settings s p mid number written so_far did)
+      subst (λ m. HasFlowedBetween form settings mid s p m number earlier so_far) same (all_handed settings s p mid number earlier so_far did)
 
   -- so many messages to members were delivered
-  module _ (all mid : RuledGrid V T) (p most number : ℕ) (written so_far : List ℕ) (may : MayFlow form all p most) where
-    module _ {settings : Settings} (s : RuledRun) (amid : IsAmid form settings all s) (did : HasDelivered form settings mid s p number written so_far) where
-      pub still_whole : length (by_then settings s p mid number written so_far did).masters ≡ partitions
+  module _ (all mid : RuledGrid V T) (p most number : ℕ) (earlier so_far : List Told) (may : MayFlow form all p most) where
+    module _ {settings : Settings} (s : RuledRun) (amid : IsAmid form settings all s) (did : HasDelivered form settings mid s p number earlier so_far) where
+      pub still_whole : length (by_then settings s p mid number earlier so_far did).masters ≡ partitions
       still_whole = flowed_count (partition_object settings) did.on.skips s p number ∙ whole_by all p most may s amid
 
-      pub still_low : p < length (by_then settings s p mid number written so_far did).masters
+      pub still_low : p < length (by_then settings s p mid number earlier so_far did).masters
       still_low = let low = may.placed in let whole = still_whole in omega (arith, low, whole)
 
-      pub still_ruled : has_masters (by_then settings s p mid number written so_far did) ≡ true
-      still_ruled = some_are (by_then settings s p mid number written so_far did).masters still_whole
+      pub still_ruled : has_masters (by_then settings s p mid number earlier so_far did) ≡ true
+      still_ruled = some_are (by_then settings s p mid number earlier so_far did).masters still_whole
 
-    pub room_left : (did : HasDelivered form may.settings mid may.run p number written so_far) → number < most → HasRoomAt (by_then may.settings may.run p mid number written so_far did).run p 1
+    pub room_left : (did : HasDelivered form may.settings mid may.run p number earlier so_far) → number < most → HasRoomAt (by_then may.settings may.run p mid number earlier so_far did).run p 1
     room_left did below = room_after (flowed_few (partition_object may.settings) did.on.skips may.run p number).few p 1 (let room = may.room in omega (arith, room, below))
 
-  pub delivered_all : {settings : Settings} (s : RuledRun) (mid : RuledGrid V T) (p number : ℕ) (written so_far : List ℕ) → HasDelivered form settings mid s p number written so_far → (most : ℕ) → number ≤ most → most ≤ number
-      → HasFlowed form settings mid s p most number written so_far
-  delivered_all {settings} s mid p number written so_far did most below past =
+  pub delivered_all : {settings : Settings} (s : RuledRun) (mid : RuledGrid V T) (p number : ℕ) (earlier so_far : List Told) → HasDelivered form settings mid s p number earlier so_far → (most : ℕ) → number ≤ most → most ≤ number
+      → HasFlowed form settings mid s p most number earlier so_far
+  delivered_all {settings} s mid p number earlier so_far did most below past =
       let same : number ≡ most = omega (arith, below, past) in
-      subst (λ m. HasFlowed form settings mid s p m number written so_far) same (delivered_so settings s p mid number written so_far did)
+      subst (λ m. HasFlowed form settings mid s p m number earlier so_far) same (delivered_so settings s p mid number earlier so_far did)
 
-  pub flowed_at : {settings : Settings} (s : RuledRun) (mid : RuledGrid V T) (most n m count : ℕ) (written text : List ℕ) → n ≡ m → HasFlowedIn form settings mid s most n count written text → HasFlowedIn form settings mid s most m count written text
-  flowed_at {settings} s mid most n m count written text same = subst (λ k. HasFlowedIn form settings mid s most k count written text) same
+  pub flowed_at : {settings : Settings} (s : RuledRun) (mid : RuledGrid V T) (most n m count : ℕ) (earlier later : List Told) → n ≡ m → HasFlowedIn form settings mid s most n count earlier later → HasFlowedIn form settings mid s most m count earlier later
+  flowed_at {settings} s mid most n m count earlier later same = subst (λ k. HasFlowedIn form settings mid s most k count earlier later) same
 
   -- A line has room for its flow.
   module _ {settings : Settings} (all : RuledGrid V T) (s : RuledRun) (stands : Stands form settings all s) (limit : s.run.lines + 1 ≤ most_lines) (ruled : has_masters s ≡ true) where
@@ -139,8 +141,8 @@ module _ {V : Type 0} {T : V → Type 0} {form : FormOf V T} where
     }
 
     -- and for that of each partition
-    pub may_flow_more : (new : RuledGrid V T) (most n count : ℕ) (written so_far : List ℕ) → HasFlowedIn form settings new (counted s) most n count written so_far → n < partitions → most ≤ 1000 → MayFlow form new n most
-    may_flow_more new most n count written so_far did low within =
+    pub may_flow_more : (new : RuledGrid V T) (most n count : ℕ) (earlier so_far : List Told) → HasFlowedIn form settings new (counted s) most n count earlier so_far → n < partitions → most ≤ 1000 → MayFlow form new n most
+    may_flow_more new most n count earlier so_far did low within =
         let o = partition_object settings in
         let mid = flowed_in o did.on.skips (counted s) most (numbers_below n) in
         record {
@@ -178,39 +180,36 @@ module _ {V : Type 0} {T : V → Type 0} {form : FormOf V T} where
     all_up most up = line_given_up all s stands (FlowAll most) (λ skips. flowed_in o skips (counted s) most (numbers_below partitions)) (all_after most) up
 
     module _ (mid : RuledGrid V T) (amid : IsAmid form settings mid (counted s)) (limit : s.run.lines + 1 ≤ most_lines) where
-      pub between_ran : (p most : ℕ) → most ≤ 1000 → (new : RuledGrid V T) (count : ℕ) (start said : List ℕ) → HasFlowedBetween form settings new (counted s) p most count start said
-          → (number : ℕ) (written mid_text text : List ℕ) → number ≡ s.run.lines + 1 → start ≡ [] → mid_text ≡ written ++ flow_text number count → text ≡ mid_text ++ said → HasRun form settings new s (MasterFlow p most) written text
-      between_ran p most within new count start said did number written mid_text text at_line none began is =
+      pub between_ran : (p most : ℕ) → most ≤ 1000 → (new : RuledGrid V T) (count : ℕ) (start said : List Told) → HasFlowedBetween form settings new (counted s) p most count start said
+          → (earlier later : List Told) → start ≡ [] → later ≡ earlier ++ came_to (Flowed count) ++ said → HasRun form settings new s (MasterFlow p most) earlier later
+      between_ran p most within new count start said did earlier later none is =
           let k = did.on.skips in
           let next = flowed_between o k (counted s) p most in
           let few = (between_few o k s.run.members (counted s) p most (rules_come (counted s) amid.masters ruled)).few in
-          let lines : next.run.lines ≡ number = few.kept.lines ∙ sym at_line in
           let handed = did.handed in
           line_ran all s stands limit new (MasterFlow p most) (λ skips. flowed_between o skips (counted s) p most) (λ skips. followed_each o skips (counted s) p most) start said did.on (between_after p most k)
-          most most few (omega (arith, within)) (omega (arith, within)) (flow_text number count) written mid_text text
-          (text_with_masters settings k s (MasterFlow p most) next ruled ∙ (λ i. flow_text (lines i) (handed i) ++ followed_each o k (counted s) p most)) none began is
+          most most few (omega (arith, within)) (omega (arith, within)) (came_to (Flowed count)) earlier later
+          (told_with_masters settings k s (MasterFlow p most) next ruled ∙ (λ i. came_to (Flowed (handed i)) ++ followed_each o k (counted s) p most)) none is
 
-      pub flow_ran : (p most : ℕ) → most ≤ 1000 → (new : RuledGrid V T) (count : ℕ) (start said : List ℕ) → HasFlowed form settings new (counted s) p most count start said
-          → (number : ℕ) (written mid_text text : List ℕ) → number ≡ s.run.lines + 1 → start ≡ [] → mid_text ≡ written ++ flow_text number count → text ≡ mid_text ++ said → HasRun form settings new s (Flow p most) written text
-      flow_ran p most within new count start said did number written mid_text text at_line none began is =
+      pub flow_ran : (p most : ℕ) → most ≤ 1000 → (new : RuledGrid V T) (count : ℕ) (start said : List Told) → HasFlowed form settings new (counted s) p most count start said
+          → (earlier later : List Told) → start ≡ [] → later ≡ earlier ++ came_to (Flowed count) ++ said → HasRun form settings new s (Flow p most) earlier later
+      flow_ran p most within new count start said did earlier later none is =
           let k = did.on.skips in
           let next = flowed o k (counted s) p most in
           let few = (flowed_few o k (counted s) p most).few in
-          let lines : next.run.lines ≡ number = few.kept.lines ∙ sym at_line in
           let counts = did.deliveries in
           line_ran all s stands limit new (Flow p most) (λ skips. flowed o skips (counted s) p most) (λ skips. told_since (counted s) (flowed o skips (counted s) p most)) start said did.on (flow_after p most k)
-          most 0 few (omega (arith, within)) (omega arith) (flow_text number count) written mid_text text
-          (text_with_masters settings k s (Flow p most) next ruled ∙ (λ i. flow_text (lines i) (counts i) ++ told_since (counted s) next)) none began is
+          most 0 few (omega (arith, within)) (omega arith) (came_to (Flowed count)) earlier later
+          (told_with_masters settings k s (Flow p most) next ruled ∙ (λ i. came_to (Flowed (counts i)) ++ told_since (counted s) next)) none is
 
-      pub all_ran : (most : ℕ) → most ≤ 1000 → (new : RuledGrid V T) (count : ℕ) (start said : List ℕ) → HasFlowedIn form settings new (counted s) most partitions count start said
-          → (number : ℕ) (written mid_text text : List ℕ) → number ≡ s.run.lines + 1 → start ≡ [] → mid_text ≡ written ++ flow_text number count → text ≡ mid_text ++ said → HasRun form settings new s (FlowAll most) written text
-      all_ran most within new count start said did number written mid_text text at_line none began is =
+      pub all_ran : (most : ℕ) → most ≤ 1000 → (new : RuledGrid V T) (count : ℕ) (start said : List Told) → HasFlowedIn form settings new (counted s) most partitions count start said
+          → (earlier later : List Told) → start ≡ [] → later ≡ earlier ++ came_to (Flowed count) ++ said → HasRun form settings new s (FlowAll most) earlier later
+      all_ran most within new count start said did earlier later none is =
           let k = did.on.skips in
           let ps = numbers_below partitions in
           let next = flowed_in o k (counted s) most ps in
           let few = flowed_in_few o k (counted s) most partitions in
-          let lines : next.run.lines ≡ number = few.kept.lines ∙ sym at_line in
           let counts = deliveries_are (counted s).run next.run count ((flowed_in_goes o (counted s) most ps).by.grows k).events did.counts in
           line_ran all s stands limit new (FlowAll most) (λ skips. flowed_in o skips (counted s) most ps) (λ skips. told_since (counted s) (flowed_in o skips (counted s) most ps)) start said did.on (all_after most k)
-          most 0 few (omega (arith, within)) (omega arith) (flow_text number count) written mid_text text
-          (text_with_masters settings k s (FlowAll most) next ruled ∙ (λ i. flow_text (lines i) (counts i) ++ told_since (counted s) next)) none began is
+          most 0 few (omega (arith, within)) (omega arith) (came_to (Flowed count)) earlier later
+          (told_with_masters settings k s (FlowAll most) next ruled ∙ (λ i. came_to (Flowed (counts i)) ++ told_since (counted s) next)) none is

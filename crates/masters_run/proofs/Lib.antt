@@ -28,7 +28,9 @@ pub mod MastersAsked
 pub mod PublishedEvents
 pub mod Composing
 pub mod LineParts
+pub mod PrintedLines
 pub mod AtOnce
+pub mod SkippedTold
 pub mod Loops
 pub mod Delivering
 pub mod HandingOver

@@ -1,5 +1,5 @@
 -- A line of a grid with masters, taken apart: it is counted, what it asks for goes on from there, and behind that the grid stands as between two lines.
-use Rattle.std.proofs.Common.{◌≡◌, ℕ, ◌+◌, ◌<◌, ◌≤◌, true, false, cond, List, [], ◌++◌, length, get_or, ap, sym, ◌∙◌, subst, append_assoc, arith}
+use Rattle.std.proofs.Common.{◌≡◌, ℕ, ◌+◌, ◌<◌, ◌≤◌, true, false, cond, List, [], ◌++◌, length, get_or, ap, sym, ◌∙◌, subst, append_assoc, append-nil, arith, Vec, Global}
 use Rattle.grid_base.specs.Objects.{Object}
 use Rattle.grid_base.specs.declared.names.CallId.{CallId}
 use Rattle.grid_base.specs.declared.calls.Request.{Request}
@@ -11,6 +11,10 @@ use Rattle.masters_world.specs.Machine.{Line, events_by}
 use Rattle.script_lang.specs.Limits.{most_lines}
 use Rattle.script_lang.specs.declared.line.Line.{Line as ScriptLine}
 use Rattle.script_lang.specs.declared.line.Line.TheVariants.{Comment}
+use Rattle.line_told.specs.declared.told.Ready.{Ready}
+use Rattle.line_told.specs.declared.told.Told.{Told}
+use Rattle.replay_run.specs.LineTold.{line_printed}
+use Rattle.replay_run.proofs.LineCases.{is_writing, writes_nothing}
 use Rattle.replay_run.specs.Runs.{partitions, next_line}
 use Rattle.replay_run.specs.Rebalancing.{most_line_events}
 use Rattle.replay_run.specs.Endings.{AreAmong, new_arrivals}
@@ -24,9 +28,9 @@ use Rattle.replay_run.proofs.TakenApart.{TakesFew, few_none}
 use Rattle.masters_run.specs.declared.grid.RuledGrid.{RuledGrid}
 use Rattle.masters_run.specs.Runs.{RuledRun, has_masters, ruled_at, counted}
 use Rattle.masters_run.specs.AfterLines.{unruled, ruled_line, after_line}
-use Rattle.masters_run.specs.Printing.{unruled_text, ruled_text, line_text}
-use Rattle.masters_run.specs.Grids.{AreMasters, Rules, Stands, MayRun, HasRun, IsGivenUp}
-use Rattle.masters_run.specs.Steps.{IsAmid, MayAsk, Onward, Texts, HasGoneOn, GivesUp}
+use Rattle.masters_run.specs.LineTold.{unruled_told, ruled_told, line_told}
+use Rattle.masters_run.specs.Grids.{AreMasters, Rules, Stands, MayRun, HasRun, HasGiven, IsGivenUp}
+use Rattle.masters_run.specs.Steps.{IsAmid, MayAsk, Onward, Tellings, HasGoneOn, GivesUp}
 use Rattle.masters_run.proofs.Going.{single_at}
 use Rattle.masters_run.proofs.MastersAsked.{AreThere, is_read, they_are}
 use Rattle.masters_run.proofs.RuleLemmas.{counted_rules}
@@ -36,14 +40,14 @@ use Rattle.masters_run.proofs.RuleLemmas.{counted_rules}
 pub with_masters : (o : Object Request Partition) (skips : List CallId) (s : RuledRun) (line : ScriptLine) → has_masters s ≡ true → after_line o skips s line ≡ ruled_line o skips s line
 with_masters o skips s line is = ap (λ b. cond b (ruled_line o skips s line) (unruled o skips s line)) is
 
-pub text_with_masters : (settings : Settings) (skips : List CallId) (s : RuledRun) (line : ScriptLine) (next : RuledRun) → has_masters s ≡ true → line_text settings skips s line next ≡ ruled_text settings skips s line next
-text_with_masters settings skips s line next is = ap (λ b. cond b (ruled_text settings skips s line next) (unruled_text settings skips s line next)) is
+pub told_with_masters : (settings : Settings) (skips : List CallId) (s : RuledRun) (line : ScriptLine) (next : RuledRun) → has_masters s ≡ true → line_told settings skips s line next ≡ ruled_told settings skips s line next
+told_with_masters settings skips s line next is = ap (λ b. cond b (ruled_told settings skips s line next) (unruled_told settings skips s line next)) is
 
 pub without_masters : (o : Object Request Partition) (skips : List CallId) (s : RuledRun) (line : ScriptLine) → has_masters s ≡ false → after_line o skips s line ≡ unruled o skips s line
 without_masters o skips s line is = ap (λ b. cond b (ruled_line o skips s line) (unruled o skips s line)) is
 
-pub text_without_masters : (settings : Settings) (skips : List CallId) (s : RuledRun) (line : ScriptLine) (next : RuledRun) → has_masters s ≡ false → line_text settings skips s line next ≡ unruled_text settings skips s line next
-text_without_masters settings skips s line next is = ap (λ b. cond b (ruled_text settings skips s line next) (unruled_text settings skips s line next)) is
+pub told_without_masters : (settings : Settings) (skips : List CallId) (s : RuledRun) (line : ScriptLine) (next : RuledRun) → has_masters s ≡ false → line_told settings skips s line next ≡ unruled_told settings skips s line next
+told_without_masters settings skips s line next is = ap (λ b. cond b (ruled_told settings skips s line next) (unruled_told settings skips s line next)) is
 
 module _ {V : Type 0} {T : V → Type 0} {form : FormOf V T} where
   -- It is counted as a comment is.
@@ -58,8 +62,16 @@ module _ {V : Type 0} {T : V → Type 0} {form : FormOf V T} where
   pub may_run_as : {all : RuledGrid V T} {number : ℕ} {line other : ScriptLine} → line ≡ other → MayRun form all number line → MayRun form all number other
   may_run_as {all = all} {number = number} same = subst (MayRun form all number) same
 
-  pub has_run_as : {settings : Settings} {new : RuledGrid V T} {s : RuledRun} {line other : ScriptLine} {written text : List ℕ} → line ≡ other → HasRun form settings new s other written text → HasRun form settings new s line written text
-  has_run_as {settings = settings} {new = new} {s = s} {written = written} {text = text} same = subst (λ l. HasRun form settings new s l written text) (sym same)
+  pub has_run_as : {settings : Settings} {new : RuledGrid V T} {s : RuledRun} {line other : ScriptLine} {earlier later : List Told} → line ≡ other → HasRun form settings new s other earlier later → HasRun form settings new s line earlier later
+  has_run_as {settings = settings} {new = new} {s = s} {earlier = earlier} {later = later} same = subst (λ l. HasRun form settings new s l earlier later) (sym same)
+
+  -- A line that writes nothing as it goes gives what it tells.
+  pub gives_told : {settings : Settings} {new : RuledGrid V T} {s : RuledRun} {line other : ScriptLine} → line ≡ other → is_writing other ≡ false → (out : Ready) (told : Vec Told Global)
+      → HasRun form settings new s other out.told.items told.items → HasGiven form settings new s line out (record out { told = told })
+  gives_told {settings = settings} {s = s} {other = other} same none out told ran = record {
+    told = has_run_as same ran;
+    printed = sym (append-nil out.printed.items) ∙ ap (λ xs. out.printed.items ++ xs) (sym (ap (line_printed settings s.run) same ∙ writes_nothing settings s.run other none));
+  }
 
   pub next_number : (all : RuledGrid V T) (number : ℕ) (line : ScriptLine) → MayRun form all number line → {settings : Settings} (s : RuledRun) → Stands form settings all s → number ≡ s.run.lines + 1
   next_number all number line may s stands = lines.next_number all.grid number Comment (may_count all number line may) s.run stands.grid
@@ -107,17 +119,17 @@ module _ {V : Type 0} {T : V → Type 0} {form : FormOf V T} where
             begun = λ one. absurd (omega (arith, lines, some, one));
           }
 
-      -- The line ran, and its text is its outcome and what followed it.
-      module _ (new : RuledGrid V T) (line : ScriptLine) (onward : Onward) (texts : Texts) (start said : List ℕ) (on : HasGoneOn form settings new (counted s) onward texts start said)
+      -- The line ran, and its later is its outcome and what followed it.
+      module _ (new : RuledGrid V T) (line : ScriptLine) (onward : Onward) (tellings : Tellings) (start said : List Told) (on : HasGoneOn form settings new (counted s) onward tellings start said)
           (after : after_line (partition_object settings) on.skips s line ≡ onward on.skips) (taken reopens : ℕ) (few : TakesFew taken reopens (next_line s.run) (onward on.skips).run) (within : taken ≤ most_line_events) (rarely : reopens ≤ most_line_events) where
-        pub line_ran : (outcome written mid text : List ℕ) → line_text settings on.skips s line (onward on.skips) ≡ outcome ++ texts on.skips → start ≡ [] → mid ≡ written ++ outcome → text ≡ mid ++ said → HasRun form settings new s line written text
-        line_ran outcome written mid text its none began is = record {
+        pub line_ran : (outcome earlier later : List Told) → line_told settings on.skips s line (onward on.skips) ≡ outcome ++ tellings on.skips → start ≡ [] → later ≡ earlier ++ outcome ++ said → HasRun form settings new s line earlier later
+        line_ran outcome earlier later its none is = record {
           skips = on.skips;
           of_line = subst (λ (x : RuledRun). AreAmong (new_arrivals s.run x.run) on.skips) (sym after) on.own;
           stands = subst (Stands form settings new) (sym after) (stands_then new (onward on.skips) taken reopens few within rarely on.amid);
           added =
-              is ∙ (λ i. began i ++ (on.added ∙ ap (λ xs. xs ++ texts on.skips) none) i) ∙ append_assoc written outcome (texts on.skips)
-              ∙ ap (λ xs. written ++ xs) (sym (ap (λ x. line_text settings on.skips s line x) after ∙ its));
+              is ∙ ap (λ xs. earlier ++ outcome ++ xs) (on.added ∙ ap (λ xs. xs ++ tellings on.skips) none) ∙ append_assoc earlier outcome (tellings on.skips)
+              ∙ ap (λ xs. earlier ++ xs) (sym (ap (λ x. line_told settings on.skips s line x) after ∙ its));
         }
 
     -- or it was given up

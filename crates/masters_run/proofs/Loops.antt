@@ -11,18 +11,20 @@ use Rattle.partition_protocol.specs.Service.{numbers_below}
 use Rattle.partition_world.specs.declared.Link.{Link}
 use Rattle.masters_world.specs.Machine.{Line, at_once, published_by}
 use Rattle.partition_protocol.specs.Events as event
+use Rattle.line_told.specs.declared.told.Told.{Told}
 use Rattle.replay_run.specs.Appending.{new_messages}
 use Rattle.replay_run.specs.ScriptRuns.{IsRun, run_given_up}
-use Rattle.replay_run.specs.WorldCalls.{texts_of}
+use Rattle.replay_run.specs.LineTold.{all_told}
 use Rattle.replay_run.proofs.EventRuns.{takes_run}
 use Rattle.masters_run.specs.declared.grid.RuledGrid.{RuledGrid}
 use Rattle.masters_run.specs.Runs.{RuledRun, masters_at, ruled_at, goes, goes_in, flowed, flowed_in, link_between, handing_over, flowed_between}
-use Rattle.masters_run.specs.Printing.{published_texts, followed, followed_in, handed_over, followed_each}
-use Rattle.masters_run.specs.Steps.{IsAmid, Onward, Texts, HasGoneOn, GivesUp, going, following}
+use Rattle.masters_run.specs.LineTold.{all_published, followed, followed_in, followed_each}
+use Rattle.masters_run.specs.Printing.{handed_over}
+use Rattle.masters_run.specs.Steps.{IsAmid, Onward, Tellings, HasGoneOn, GivesUp, going, following}
 use Rattle.replay_run.specs.Grids.{FormOf}
 use Rattle.masters_run.proofs.RuledRuns.{AsksNoCall, goes_keeps, goes_in_keeps, flowed_keeps, flowed_in_keeps, between_keeps, between_on}
 use Rattle.masters_run.proofs.RuledGrowing.{goes_goes, goes_in_goes}
-use Rattle.masters_run.proofs.SkippedTexts.{followed_in_alike}
+use Rattle.masters_run.proofs.SkippedTold.{followed_in_alike}
 use Rattle.masters_run.proofs.Composing.{TellsBy, tells_by_run, gone_further, gives_up_then, gives_up_first, gone_nowhere, SameSteps, gone_as, up_as}
 
 -- what is asked for in one partition tells by where it leads
@@ -31,7 +33,7 @@ one_tells settings s p l q =
     let o = partition_object settings in
     let j = ruled_at o s p in
     tells_by_run s (going settings s p l)
-    (λ next. published_texts o s.run.lines p (length j.masters.published + 1) (event.run o j.world (at_once j l)) (published_by j l) ++ texts_of (new_messages s.run next.run))
+    (λ next. all_published o p (length j.masters.published + 1) (event.run o j.world (at_once j l)) (published_by j l) ++ all_told (new_messages s.run next.run))
     (goes_goes o s p l q)
 
 -- A run stays one.
@@ -77,15 +79,15 @@ module _ (o : Object Request Partition) (skips : List CallId) (l : Line Request)
 abbrev pub going_in : Settings → RuledRun → Line Request → ℕ → Onward
 going_in settings s l n skips = goes_in (partition_object settings) skips s l (numbers_below n)
 
-abbrev pub following_in : Settings → RuledRun → Line Request → ℕ → Texts
+abbrev pub following_in : Settings → RuledRun → Line Request → ℕ → Tellings
 following_in settings s l n skips = followed_in (partition_object settings) skips s l (numbers_below n)
 
 -- What is asked for has gone on in so many partitions.
-abbrev pub HasGoneIn : {V : Type 0} {T : V → Type 0} → FormOf V T → Settings → RuledGrid V T → RuledRun → Line Request → ℕ → List ℕ → List ℕ → Type 0
-HasGoneIn form settings grid s l n written text = HasGoneOn form settings grid s (going_in settings s l n) (following_in settings s l n) written text
+abbrev pub HasGoneIn : {V : Type 0} {T : V → Type 0} → FormOf V T → Settings → RuledGrid V T → RuledRun → Line Request → ℕ → List Told → List Told → Type 0
+HasGoneIn form settings grid s l n earlier later = HasGoneOn form settings grid s (going_in settings s l n) (following_in settings s l n) earlier later
 
-pub gone_in_none : {V : Type 0} {T : V → Type 0} {form : FormOf V T} {settings : Settings} (grid : RuledGrid V T) (s : RuledRun) (l : Line Request) (text : List ℕ) → IsAmid form settings grid s → HasGoneIn form settings grid s l 0 text text
-gone_in_none grid s l text amid = gone_nowhere grid s text amid
+pub gone_in_none : {V : Type 0} {T : V → Type 0} {form : FormOf V T} {settings : Settings} (grid : RuledGrid V T) (s : RuledRun) (l : Line Request) (later : List Told) → IsAmid form settings grid s → HasGoneIn form settings grid s l 0 later later
+gone_in_none grid s l later amid = gone_nowhere grid s later amid
 
 module _ (settings : Settings) (s : RuledRun) (l : Line Request) (quiet : AsksNoCall l) where
   in_tells : (n : ℕ) → TellsBy s (going_in settings s l n) (following_in settings s l n)
@@ -99,21 +101,21 @@ module _ (settings : Settings) (s : RuledRun) (l : Line Request) (quiet : AsksNo
         says = λ k. sym (followed_in_more (partition_object settings) k l s n) ∙ ap (λ m. following_in settings s l m k) one;
       }
 
-  module _ {V : Type 0} {T : V → Type 0} {form : FormOf V T} (mid new : RuledGrid V T) (n : ℕ) (written so_far : List ℕ) (a : HasGoneIn form settings mid s l n written so_far) where
+  module _ {V : Type 0} {T : V → Type 0} {form : FormOf V T} (mid new : RuledGrid V T) (n : ℕ) (earlier so_far : List Told) (a : HasGoneIn form settings mid s l n earlier so_far) where
     -- the run by then
     abbrev pub gone_in : RuledRun
     gone_in = going_in settings s l n a.skips
 
     -- and in one more
-    pub gone_in_more : (text : List ℕ) → HasGoneOn form settings new gone_in (going settings gone_in n l) (following settings gone_in n l) so_far text → HasGoneIn form settings new s l (n + 1) written text
-    gone_in_more text b =
+    pub gone_in_more : (later : List Told) → HasGoneOn form settings new gone_in (going settings gone_in n l) (following settings gone_in n l) so_far later → HasGoneIn form settings new s l (n + 1) earlier later
+    gone_in_more later b =
         (gone_as (in_same n)
-        (gone_further settings s (going_in settings s l n) (λ x. going settings x n l) (following_in settings s l n) (λ x. following settings x n l) (in_tells n) (λ x. one_tells settings x n l quiet) mid new written so_far text a b).on).0
+        (gone_further settings s (going_in settings s l n) (λ x. going settings x n l) (following_in settings s l n) (λ x. following settings x n l) (in_tells n) (λ x. one_tells settings x n l quiet) mid new earlier so_far later a b).on).0
 
     -- or it is given up there
     pub gives_up_in : (most : ℕ) → n < most → GivesUp gone_in (going settings gone_in n l) → GivesUp s (going_in settings s l most)
     gives_up_in most below b =
-        let now = gives_up_then settings s (going_in settings s l n) (λ x. going settings x n l) (following_in settings s l n) (λ x. following settings x n l) (in_tells n) (λ x. one_tells settings x n l quiet) mid new written so_far [] a b
+        let now = gives_up_then settings s (going_in settings s l n) (λ x. going settings x n l) (following_in settings s l n) (λ x. following settings x n l) (in_tells n) (λ x. one_tells settings x n l quiet) mid new earlier so_far [] a b
         (λ t. goes_run (partition_object settings) t gone_in n l quiet a.amid.grid.run) in
         rest (most - (n + 1)) most (omega (arith, below)) (up_as (in_same n).leads now)
       where
@@ -136,7 +138,7 @@ module _ (o : Object Request Partition) (skips : List CallId) where
   abbrev handed_on : RuledRun → ℕ → ℕ → Option Link → ℕ
   handed_on s p most next = elim next [ None ↦ 0 | Some l ↦ suc (handed_over o skips (goes o skips s p (handing_over l)) p most) ]
 
-  abbrev followed_on : RuledRun → ℕ → ℕ → Option Link → List ℕ
+  abbrev followed_on : RuledRun → ℕ → ℕ → Option Link → List Told
   followed_on s p most next = elim next [ None ↦ [] | Some l ↦ followed o skips s p (handing_over l) ++ followed_each o skips (goes o skips s p (handing_over l)) p most ]
 
   pub handed_none : (s : RuledRun) (p most : ℕ) → link_between (masters_at s p) ≡ None → handed_over o skips s p most ≡ 0

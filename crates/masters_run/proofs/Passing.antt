@@ -1,6 +1,5 @@
 -- A line that is counted, and does nothing else to the grid: it is held back, or it brings the masters.
 use Rattle.std.proofs.Common.{◌≡◌, ℕ, zero, suc, ◌+◌, ◌<◌, ◌≤◌, true, false, true≢false, cond, ◌==◌, List, [], ◌∷◌, ◌++◌, map, length, Option, Some, None, slice_get, refl, ap, sym, ◌∙◌, subst, ⊎_elim, append-nil, arith}
-use Rattle.std.specs.Prelude.{codes}
 use Rattle.std.proofs.lemmas.Bool.{cases_eq}
 use Rattle.std.proofs.lemmas.List.{drop_all}
 use Rattle.grid_base.specs.Objects.{Object}
@@ -20,23 +19,25 @@ use Rattle.script_lang.specs.Limits.{most_lines}
 use Rattle.script_lang.specs.Lines.{IsWithin}
 use Rattle.script_lang.specs.declared.line.Line.{Line as ScriptLine}
 use Rattle.script_lang.specs.declared.line.Line.TheVariants as ScriptLines
+use Rattle.line_told.specs.declared.told.Told.{Told}
 use Rattle.replay_run.specs.Runs.{At, partitions, next_line, event_by}
 use Rattle.replay_run.specs.Appending.{new_messages}
 use Rattle.replay_run.specs.Grids.{FormOf, most_arriving}
-use Rattle.replay_run.specs.Printing.{ok_text, nothing_text, words_line}
-use Rattle.replay_run.specs.WorldCalls.{texts_of}
+use Rattle.replay_run.specs.LineTold.{came_to, all_told}
+use Rattle.line_told.specs.declared.told.LineOutcome.TheVariants.{Ran, Idle}
 use Rattle.replay_run.specs.WorldCalls as amid
 use Rattle.replay_run.proofs.EventLines.{of_event}
+use Rattle.replay_run.proofs.LineCases.{is_writing}
 use Rattle.replay_run.proofs.TableChanges.{got_before, got_last}
 use Rattle.replay_run.proofs.TakenApart.{few_none}
 use Rattle.masters_run.specs.declared.grid.RuledGrid.{RuledGrid}
 use Rattle.masters_run.specs.Runs.{RuledRun, has_masters, opening_masters, ruled_at, takes_each, goes, counted}
 use Rattle.masters_run.specs.AfterLines.{by_grid, ruled_line, after_line}
-use Rattle.masters_run.specs.Printing.{event_words, said, outcome_words, followed, ruled_text, line_text}
+use Rattle.masters_run.specs.LineTold.{event_outcome, said, asked_outcome, followed, ruled_told, line_told}
 use Rattle.masters_run.specs.Grids.{Stands, HasRun}
 use Rattle.masters_run.specs.Parts.{is_later, is_held_back}
 use Rattle.masters_run.proofs.AtOnce.{as_event, asks_by_proposals, goes_at_once, followed_at_once, says_at_once}
-use Rattle.masters_run.proofs.LineParts.{with_masters, text_with_masters, without_masters, text_without_masters, counted_amid, stands_then}
+use Rattle.masters_run.proofs.LineParts.{with_masters, told_with_masters, without_masters, told_without_masters, counted_amid, stands_then}
 use Rattle.masters_run.proofs.RuleLemmas.{opening_rules}
 
 some_at : {X : Type 0} (xs : List X) (p : ℕ) → p < length xs → (x : X) × (slice_get xs p ≡ Some x)
@@ -44,11 +45,19 @@ some_at [] p low = absurd (omega (arith, low))
 some_at (x ∷ xs) zero low = (x, refl)
 some_at (x ∷ xs) (suc p) low = some_at xs p (omega (arith, low))
 
+-- A line that is held back writes nothing.
+pub held_writes_none : (settings : Settings) (s : RuledRun) (line : ScriptLine) → is_held_back settings s line ≡ true → is_writing line ≡ false
+held_writes_none settings s (ScriptLines.Dump p member) held = absurd (true≢false (sym held))
+held_writes_none settings s (ScriptLines.Links p) held = absurd (true≢false (sym held))
+held_writes_none settings s (ScriptLines.Trail p) held = absurd (true≢false (sym held))
+held_writes_none settings s ScriptLines.End held = absurd (true≢false (sym held))
+held_writes_none settings s line held = refl
+
 -- a line that is held back
 
 pub record PassesBy (settings : Settings) (s : RuledRun) (line : ScriptLine) : Type 0 where
   pub after : (skips : List CallId) → ruled_line (partition_object settings) skips s line ≡ counted s
-  pub text : (skips : List CallId) → ruled_text settings skips s line (counted s) ≡ nothing_text (s.run.lines + 1)
+  pub tells : (skips : List CallId) → ruled_told settings skips s line (counted s) ≡ came_to Idle
 
 module _ (settings : Settings) (s : RuledRun) (whole : length s.masters ≡ partitions) where
   abbrev o : Object Request Partition
@@ -69,11 +78,11 @@ module _ (settings : Settings) (s : RuledRun) (whole : length s.masters ≡ part
       goes_at_once o (counted s) e.partition e.event none k low ∙ ap (λ es. record (counted s) { run = takes_each o k (next_line s.run) e.partition es }) nothing_now in
       record {
         after = λ k. its.after k ∙ stays k;
-        text = λ k.
-            (let words : outcome_words o j (Asks e.event) ≡ codes "nothing" = says_at_once o (counted s) e.partition e.event none ∙ ap (λ es. said [] (map (event_words o j.world) es)) nothing_now in
+        tells = λ k.
+            (let came : asked_outcome o j (Asks e.event) ≡ Idle = says_at_once o (counted s) e.partition e.event none ∙ ap (λ es. said [] (map (event_outcome o j.world) es)) nothing_now in
             let rest : followed o k (counted s) e.partition (Asks e.event) ≡ [] =
-            followed_at_once o (counted s) e.partition e.event none k ∙ ap (λ (x : RuledRun). texts_of (new_messages (next_line s.run) x.run)) (stays k) ∙ ap texts_of (drop_all (length s.run.appended) s.run.appended (omega arith)) in
-            its.text k (counted s) ∙ (λ i. words_line (s.run.lines + 1) (words i) ++ rest i) ∙ append-nil (nothing_text (s.run.lines + 1)));
+            followed_at_once o (counted s) e.partition e.event none k ∙ ap (λ (x : RuledRun). all_told (new_messages (next_line s.run) x.run)) (stays k) ∙ ap all_told (drop_all (length s.run.appended) s.run.appended (omega arith)) in
+            its.tells k (counted s) ∙ (λ i. came_to (came i) ++ rest i) ∙ append-nil (came_to Idle));
       }
 
   held_event : (line : ScriptLine) (x : Option At) → event_by line ≡ x → map_or x false (is_later settings s) ≡ true → ((e : At) → event_by line ≡ Some e → proposals (ruled_at o s e.partition) e.event ≡ []) → IsWithin s.run.members most_arriving line → PassesBy settings s line
@@ -81,15 +90,15 @@ module _ (settings : Settings) (s : RuledRun) (whole : length s.masters ≡ part
   held_event line (Some e) is held nothing read = event_passes line e is ((of_event settings s.run line e is).within s.run.members most_arriving read) (nothing e is) held
 
   pub passes : (line : ScriptLine) → is_held_back settings s line ≡ true → ((e : At) → event_by line ≡ Some e → proposals (ruled_at o s e.partition) e.event ≡ []) → IsWithin s.run.members most_arriving line → PassesBy settings s line
-  passes ScriptLines.Masters held nothing read = record { after = λ k. refl; text = λ k. refl }
-  passes (ScriptLines.Rebalance most) held nothing read = record { after = λ k. refl; text = λ k. refl }
+  passes ScriptLines.Masters held nothing read = record { after = λ k. refl; tells = λ k. refl }
+  passes (ScriptLines.Rebalance most) held nothing read = record { after = λ k. refl; tells = λ k. refl }
   passes line held nothing read = held_event line (event_by line) refl held nothing read
 
 module _ {V : Type 0} {T : V → Type 0} {form : FormOf V T} {settings : Settings} (all new : RuledGrid V T) (s : RuledRun) (stands : Stands form settings all s) (limit : s.run.lines + 1 ≤ most_lines) where
   -- The line was counted, and nothing else.
-  pub passed : (line : ScriptLine) → has_masters s ≡ true → PassesBy settings s line → new.masters ≡ all.masters → amid.IsAmid form settings new.grid (next_line s.run) → (number : ℕ) (written text : List ℕ) → number ≡ s.run.lines + 1 → text ≡ written ++ nothing_text number
-      → HasRun form settings new s line written text
-  passed line ruled its kept now number written text at_line is =
+  pub passed : (line : ScriptLine) → has_masters s ≡ true → PassesBy settings s line → new.masters ≡ all.masters → amid.IsAmid form settings new.grid (next_line s.run) → (earlier later : List Told) → later ≡ earlier ++ came_to Idle
+      → HasRun form settings new s line earlier later
+  passed line ruled its kept now earlier later is =
       let o = partition_object settings in
       let there = counted_amid all s stands new kept now in
       let after : after_line o [] s line ≡ counted s = with_masters o [] s line ruled ∙ its.after [] in
@@ -97,14 +106,14 @@ module _ {V : Type 0} {T : V → Type 0} {form : FormOf V T} {settings : Setting
         skips = [];
         of_line = λ id c. absurd (in_contains id [] c);
         stands = subst (Stands form settings new) (sym after) (stands_then all s stands limit new (counted s) 0 0 (few_none (next_line s.run)) (omega arith) (omega arith) there);
-        added = is ∙ ap (λ n. written ++ nothing_text n) at_line ∙ ap (λ xs. written ++ xs) (sym (ap (λ x. line_text settings [] s line x) after ∙ text_with_masters settings [] s line (counted s) ruled ∙ its.text []));
+        added = is ∙ ap (λ xs. earlier ++ xs) (sym (ap (λ x. line_told settings [] s line x) after ∙ told_with_masters settings [] s line (counted s) ruled ∙ its.tells []));
       }
 
   -- The masters begin, at the second line.
   pub begins : has_masters s ≡ false → s.run.lines ≡ 1 → amid.IsAmid form settings new.grid (next_line s.run) → length new.masters.items ≡ partitions
       → ((p : ℕ) (kept : Masters) → slice_get new.masters.items p ≡ Some kept → (size_of kept ≡ s.run.members) × StandsFor kept [])
-      → (number : ℕ) (written text : List ℕ) → number ≡ s.run.lines + 1 → text ≡ written ++ ok_text number → HasRun form settings new s ScriptLines.Masters written text
-  begins none one now count each number written text at_line is =
+      → (earlier later : List Told) → later ≡ earlier ++ came_to Ran → HasRun form settings new s ScriptLines.Masters earlier later
+  begins none one now count each earlier later is =
       let o = partition_object settings in
       let next : RuledRun = record (counted s) { masters = opening_masters s.run.members } in
       let first : (s.run.lines == 1) ≡ true = number_same s.run.lines 1 one in
@@ -115,8 +124,8 @@ module _ {V : Type 0} {T : V → Type 0} {form : FormOf V T} {settings : Setting
         skips = [];
         of_line = λ id c. absurd (in_contains id [] c);
         stands = subst (Stands form settings new) (sym after) (stands_then all s stands limit new next 0 0 (few_none (next_line s.run)) (omega arith) (omega arith) (record { grid = now; masters = rules }));
-        added = is ∙ ap (λ n. written ++ ok_text n) at_line
-            ∙ ap (λ xs. written ++ xs) (sym (ap (λ x. line_text settings [] s ScriptLines.Masters x) after ∙ text_without_masters settings [] s ScriptLines.Masters next none ∙ ap (λ b. cond b (ok_text (s.run.lines + 1)) (nothing_text (s.run.lines + 1))) first));
+        added = is
+            ∙ ap (λ xs. earlier ++ xs) (sym (ap (λ x. line_told settings [] s ScriptLines.Masters x) after ∙ told_without_masters settings [] s ScriptLines.Masters next none ∙ ap (λ b. came_to (cond b Ran Idle)) first));
       }
 
 -- One partition more has its masters.

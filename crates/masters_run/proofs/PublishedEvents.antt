@@ -1,36 +1,34 @@
 -- What the masters of a partition published has happened to it, and was told: the run has gone on by the line that they were asked.
-use Rattle.std.proofs.Common.{◌≡◌, ◌≢◌, ℕ, ◌+◌, true, false, cond, List, [], ◌∷◌, ◌++◌, map, length, drop, slice_set, refl, ap, sym, ◌∙◌, subst, append_assoc, append-nil, arith}
-use Rattle.std.specs.Prelude.{codes, decimal}
+use Rattle.std.proofs.Common.{◌≡◌, ℕ, ◌+◌, true, false, cond, List, [], ◌∷◌, ◌++◌, map, length, drop, slice_set, refl, ap, sym, ◌∙◌, subst, append_assoc, append-nil, arith}
+use Rattle.std.specs.Prelude.{if◌then◌else◌}
 use Rattle.std.proofs.lemmas.List.{drop_at, drop_all}
 use Rattle.grid_base.specs.declared.names.CallId.{CallId}
 use Rattle.grid_base.specs.declared.calls.Request.{Request}
 use Rattle.call_engine.specs.Calls.{Settings}
 use Rattle.call_engine.specs.Objects.{partition_object}
-use Rattle.grid_base.specs.Objects.{Object}
-use Rattle.partition_protocol.specs.Events.{Event, Reopen, happens, run}
+use Rattle.partition_protocol.specs.Events.{Event, Reopen, run}
 use Rattle.partition_protocol.specs.World.{World, start}
 use Rattle.partition_protocol.proofs.Lists.{in_contains}
 use Rattle.partition_protocol.proofs.WellFormed.{run_size}
-use Rattle.partition_world.specs.declared.event.Event.{Event as Happening}
-use Rattle.partition_world.specs.declared.event.Event.TheVariants as happening
+use Rattle.line_told.specs.Happenings.{event_told, fate_told}
+use Rattle.line_told.specs.declared.told.LineOutcome.{LineOutcome}
+use Rattle.line_told.specs.declared.told.Told.{Told}
 use Rattle.partition_world.specs.declared.event.Happened.{Happened}
-use Rattle.partition_world.specs.Events.{event_of as event_in}
+use Rattle.partition_world.specs.Events.{happened_of}
 use Rattle.masters_world.specs.Decisions.{Decision, event_of}
 use Rattle.masters_world.specs.Machine.{Line, asked_by, at_once, masters_after, published_by, events_by}
 use Rattle.replay_run.specs.Runs.{Run, events_at, world_at, takes}
-use Rattle.replay_run.specs.Dumps.{number}
 use Rattle.replay_run.specs.Appending.{new_messages}
-use Rattle.replay_run.specs.Printing.{words_line, words_of, fate_words, done_word}
+use Rattle.replay_run.specs.LineTold.{came_to, all_told, is_advance}
 use Rattle.replay_run.specs.declared.grid.Grid.{Grid}
 use Rattle.replay_run.specs.Endings.{AreAmong, new_arrivals}
 use Rattle.replay_run.specs.Grids.{FormOf}
-use Rattle.replay_run.specs.AsText as printed
 use Rattle.replay_run.specs.WorldCalls as grid
-use Rattle.replay_run.specs.WorldCalls.{GivesUpSo, texts_of}
+use Rattle.replay_run.specs.WorldCalls.{GivesUpSo}
 use Rattle.masters_run.specs.declared.grid.RuledGrid.{RuledGrid}
 use Rattle.masters_run.specs.Runs.{RuledRun, masters_at, ruled_at, meets_full_link, takes_each, goes}
 use Rattle.masters_run.specs.Runs as ruled
-use Rattle.masters_run.specs.Printing.{published_words, published_texts}
+use Rattle.masters_run.specs.LineTold.{is_detection, number_told, published_outcome, all_published}
 use Rattle.masters_run.specs.Grids.{Rules}
 use Rattle.masters_run.specs.Steps.{HasGoneOn, GivesUp, going, following, HasAskedMasters, HasTaken}
 use Rattle.masters_run.proofs.RuleLemmas.{rules_after}
@@ -42,35 +40,24 @@ world_members settings r p = (run_size (partition_object settings) (start p r.me
 no_messages : (r : Run) → new_messages r r ≡ []
 no_messages r = drop_all (length r.appended) r.appended (omega arith)
 
--- what was written, and then what was published, what came of it and what was appended
-told_together : (written said came sent : List ℕ) → ((written ++ said) ++ came) ++ sent ≡ written ++ (((said ++ came) ++ []) ++ sent)
-told_together written said came sent = simp (append_assoc, append-nil)
-
--- what a published event came to, as it is told
-
-module _ {State : Type 0} (o : Object Request State) (w : World Request) where
-  -- a detection
-  pub detection_words : (e : Happening Request) (m : ℕ) → e ≡ happening.Detect m → published_words o w (event_in e) ≡ fate_words (happens o w (event_in e)).outcome
-  detection_words e m is = subst (λ x. published_words o w (event_in x) ≡ fate_words (happens o w (event_in x)).outcome) (sym is) refl
-
-  -- and any other event
-  pub other_words : (e : Happening Request) → ((m : ℕ) → e ≢ happening.Detect m) → published_words o w (event_in e) ≡ words_of (done_word (event_in e)) (happens o w (event_in e)).outcome
-  other_words (happening.Detect m) other = absurd (other m refl)
-  other_words e other = refl
+-- what was told earlier, and then what was published, what came of it and what was appended
+told_together : (earlier said came sent : List Told) → ((earlier ++ said) ++ came) ++ sent ≡ earlier ++ (((said ++ came) ++ []) ++ sent)
+told_together earlier said came sent = simp (append_assoc, append-nil)
 
 -- The event has happened, and its outcome and what it appended were told.
-pub taken_so : {V : Type 0} {T : V → Type 0} (form : FormOf V T) (settings : Settings) (new : Grid V T) (r : Run) (p : ℕ) (e : Event Request) (happened : Happened) (start messages : List ℕ) → start ≡ []
-    → printed.HasTaken form settings new r p e happened start messages → (written told text : List ℕ)
-    → told ≡ written ++ words_line r.lines (published_words (partition_object settings) (world_at (partition_object settings) r p) e) → text ≡ told ++ messages → HasTaken form settings new r p e written text
-taken_so form settings new r p e happened start messages empty did written told text came more =
+pub taken_so : {V : Type 0} {T : V → Type 0} (form : FormOf V T) (settings : Settings) (new : Grid V T) (r : Run) (p : ℕ) (e : Event Request) (happened : Happened) (start messages : List Told) → start ≡ []
+    → grid.HasTaken form settings new r p e happened start messages → (earlier later : List Told) (came : LineOutcome)
+    → came ≡ (if is_detection e then fate_told (happened_of happened) else event_told (is_advance e) (happened_of happened)) → later ≡ earlier ++ came_to came ++ messages → HasTaken form settings new r p e earlier later
+taken_so form settings new r p e happened start messages empty did earlier later came comes more =
     let o = partition_object settings in
     let next = takes o did.on.skips r p e in
     let sent : new_messages r next ≡ did.on.on.messages = ap (λ ms. drop (length r.appended) ms) did.on.on.appended ∙ drop_at r.appended did.on.on.messages (length r.appended) refl in
+    let is : came ≡ published_outcome o (world_at o r p) e = comes ∙ ap (λ x. if is_detection e then fate_told x else event_told (is_advance e) x) did.outcome in
     record {
       skips = did.on.skips;
       own = did.on.own;
       amid = did.on.on.amid;
-      added = more ∙ ap (λ xs. told ++ xs) (did.on.on.added ∙ ap (λ xs. xs ++ texts_of did.on.on.messages) empty ∙ ap (λ ms. texts_of ms) (sym sent)) ∙ ap (λ xs. xs ++ texts_of (new_messages r next)) came;
+      added = more ∙ ap (λ xs. earlier ++ came_to came ++ xs) (did.on.on.added ∙ ap (λ xs. xs ++ all_told did.on.on.messages) empty ∙ ap (λ ms. all_told ms) (sym sent)) ∙ ap (λ x. earlier ++ came_to x ++ all_told (new_messages r next)) is;
     }
 
 -- where an event met a full partition, or masters a full link
@@ -112,8 +99,8 @@ module _ (settings : Settings) (s : RuledRun) (p : ℕ) (l : Line Request) (goes
   -- what is told
 
   -- of a run that so goes on, where these were published
-  abbrev told_of : List Decision → World Request → Run → List ℕ
-  told_of ds w r = published_texts (partition_object settings) s.run.lines p (length (masters_at s p).published + 1) w ds ++ texts_of (new_messages s.run r)
+  abbrev told_of : List Decision → World Request → Run → List Told
+  told_of ds w r = all_published (partition_object settings) p (length (masters_at s p).published + 1) w ds ++ all_told (new_messages s.run r)
 
   told_so : (skips : List CallId) (ds : List Decision) (r : Run) → published_by (ruled_at (partition_object settings) s p) l ≡ ds → (goes (partition_object settings) skips s p l).run ≡ r
       → following settings s p l skips ≡ told_of ds (world_at (partition_object settings) s.run p) r
@@ -125,25 +112,25 @@ module _ (settings : Settings) (s : RuledRun) (p : ℕ) (l : Line Request) (goes
       ∙ ap (λ x. told_of ds j.world x) its
 
   none_told : published_by (ruled_at (partition_object settings) s p) l ≡ [] → (skips : List CallId) → following settings s p l skips ≡ []
-  none_told is skips = told_so skips [] s.run is (none_run is skips) ∙ ap (λ ms. texts_of ms) (no_messages s.run)
+  none_told is skips = told_so skips [] s.run is (none_run is skips) ∙ ap (λ ms. all_told ms) (no_messages s.run)
 
   one_told : (d : Decision) → published_by (ruled_at (partition_object settings) s p) l ≡ d ∷ [] → (e : Event Request) → e ≡ event_of s.run.members d → (skips : List CallId)
-      → following settings s p l skips ≡ ((words_line s.run.lines (codes "published " ++ number p ++ decimal (length (masters_at s p).published + 1))
-      ++ words_line s.run.lines (published_words (partition_object settings) (world_at (partition_object settings) s.run p) e)) ++ [])
-      ++ texts_of (new_messages s.run (takes (partition_object settings) skips s.run p e))
+      → following settings s p l skips ≡ ((number_told p (length (masters_at s p).published + 1)
+      ++ came_to (published_outcome (partition_object settings) (world_at (partition_object settings) s.run p) e)) ++ [])
+      ++ all_told (new_messages s.run (takes (partition_object settings) skips s.run p e))
   one_told d is e its skips =
       let o = partition_object settings in
       let w = world_at o s.run p in
       let next = takes o skips s.run p e in
       told_so skips (d ∷ []) next is (one_run d is e its skips)
-      ∙ ap (λ x. ((words_line s.run.lines (codes "published " ++ number p ++ decimal (length (masters_at s p).published + 1)) ++ words_line s.run.lines (published_words o w x)) ++ []) ++ texts_of (new_messages s.run next))
+      ∙ ap (λ x. ((number_told p (length (masters_at s p).published + 1) ++ came_to (published_outcome o w x)) ++ []) ++ all_told (new_messages s.run next))
       (ap (λ n. event_of n d) (world_members settings s.run p) ∙ sym its)
 
 -- With a line that asks the masters of a partition the run goes on.
 module _ {V : Type 0} {T : V → Type 0} (form : FormOf V T) (settings : Settings) (all : RuledGrid V T) (s : RuledRun) (p : ℕ) (l : Line Request) (before : ℕ) (h : HasAskedMasters form settings all s p l before) where
   -- nothing was published
-  pub none_follows : published_by (ruled_at (partition_object settings) s p) l ≡ [] → (written : List ℕ) → HasGoneOn form settings all s (going settings s p l) (following settings s p l) written written
-  none_follows is written =
+  pub none_follows : published_by (ruled_at (partition_object settings) s p) l ≡ [] → (earlier : List Told) → HasGoneOn form settings all s (going settings s p l) (following settings s p l) earlier earlier
+  none_follows is earlier =
       let same = none_run settings s p l h.goes h.later is [] in
       record {
         skips = [];
@@ -152,19 +139,19 @@ module _ {V : Type 0} {T : V → Type 0} (form : FormOf V T) (settings : Setting
           grid = subst (λ r. grid.IsAmid form settings all.grid r) (sym same) h.grid;
           masters = rules_after settings all.masters.items s p l [] h.placed h.count h.whole h.most h.others h.masters h.there h.lines h.of_lines h.size h.stands (ap (λ (r : Run). r.full) same ∙ h.grid.holds.goes_on);
         };
-        added = sym (append-nil written) ∙ ap (λ t. written ++ t) (sym (none_told settings s p l h.goes h.later is []));
+        added = sym (append-nil earlier) ∙ ap (λ t. earlier ++ t) (sym (none_told settings s p l h.goes h.later is []));
       }
 
   -- one decision was, and its event has happened
   pub one_follows : (d : Decision) → published_by (ruled_at (partition_object settings) s p) l ≡ d ∷ [] → (e : Event Request) → e ≡ event_of s.run.members d
-      → (new : RuledGrid V T) → new.masters ≡ all.masters → (written begun text : List ℕ) → begun ≡ written ++ words_line s.run.lines (codes "published " ++ number p ++ decimal (before + 1))
-      → HasTaken form settings new.grid s.run p e begun text → HasGoneOn form settings new s (going settings s p l) (following settings s p l) written text
-  one_follows d is e its new kept written begun text began took =
+      → (new : RuledGrid V T) → new.masters ≡ all.masters → (earlier begun later : List Told) → begun ≡ earlier ++ number_told p (before + 1)
+      → HasTaken form settings new.grid s.run p e begun later → HasGoneOn form settings new s (going settings s p l) (following settings s p l) earlier later
+  one_follows d is e its new kept earlier begun later began took =
       let o = partition_object settings in
       let on = one_run settings s p l h.goes h.later d is e its took.skips in
-      let said = words_line s.run.lines (codes "published " ++ number p ++ decimal (before + 1)) in
-      let came = words_line s.run.lines (published_words o (world_at o s.run p) e) in
-      let sent = texts_of (new_messages s.run (takes o took.skips s.run p e)) in
+      let said = number_told p (before + 1) in
+      let came = came_to (published_outcome o (world_at o s.run p) e) in
+      let sent = all_told (new_messages s.run (takes o took.skips s.run p e)) in
       record {
         skips = took.skips;
         own = subst (λ r. AreAmong (new_arrivals s.run r) took.skips) (sym on) took.own;
@@ -173,8 +160,8 @@ module _ {V : Type 0} {T : V → Type 0} (form : FormOf V T) (settings : Setting
           masters = subst (λ ms. Rules settings ms (goes o took.skips s p l)) (sym (ap (λ ms. ms.items) kept))
               (rules_after settings all.masters.items s p l took.skips h.placed h.count h.whole h.most h.others h.masters h.there h.lines h.of_lines h.size h.stands (ap (λ (r : Run). r.full) on ∙ took.amid.holds.goes_on));
         };
-        added = took.added ∙ ap (λ xs. (xs ++ came) ++ sent) began ∙ told_together written said came sent
-            ∙ ap (λ t. written ++ t) (ap (λ n. ((words_line s.run.lines (codes "published " ++ number p ++ decimal (n + 1)) ++ came) ++ []) ++ sent) (sym h.published) ∙ sym (one_told settings s p l h.goes h.later d is e its took.skips));
+        added = took.added ∙ ap (λ xs. (xs ++ came) ++ sent) began ∙ told_together earlier said came sent
+            ∙ ap (λ t. earlier ++ t) (ap (λ n. ((number_told p (n + 1) ++ came) ++ []) ++ sent) (sym h.published) ∙ sym (one_told settings s p l h.goes h.later d is e its took.skips));
       }
 
   -- that event met a full partition

@@ -10,13 +10,14 @@ use Rattle.masters_protocol.specs.Machine as masters
 use Rattle.masters_world.specs.Decisions as decision
 use Rattle.masters_world.specs.Machine.{Ruled, Line, Asks, proposing, past, asked_by, at_once, published_by, was_told}
 use Rattle.master_wire.specs.declared.decision.Decision.TheVariants as written
+use Rattle.line_told.specs.declared.told.Told.{Told}
 use Rattle.replay_run.specs.Runs.{Run}
 use Rattle.replay_run.specs.Appending.{new_messages}
 use Rattle.replay_run.specs.Grids.{FormOf}
-use Rattle.replay_run.specs.WorldCalls.{texts_of}
+use Rattle.replay_run.specs.LineTold.{all_told}
 use Rattle.masters_run.specs.declared.grid.RuledGrid.{RuledGrid}
 use Rattle.masters_run.specs.Runs.{RuledRun, ruled_at, takes_each, goes}
-use Rattle.masters_run.specs.Printing.{published_texts}
+use Rattle.masters_run.specs.LineTold.{all_published}
 use Rattle.masters_run.specs.Steps.{IsAmid, Proposes, HasGoneOn, going, following}
 use Rattle.masters_run.specs.Written.{as_written}
 use Rattle.masters_run.proofs.Extending.{past_same}
@@ -29,21 +30,21 @@ nothing_published : (j : Ruled Request) (l : Line Request) → asked_by j l ≡ 
 nothing_published j l none = ap (λ es. past j.masters.published (masters.run j.masters es).published) none ∙ past_same j.masters.published
 
 pub quiet_follows : {V : Type 0} {T : V → Type 0} (form : FormOf V T) (settings : Settings) (all : RuledGrid V T) (s : RuledRun) (p : ℕ) (l : Line Request) → IsAmid form settings all s → p < length s.masters
-    → asked_by (ruled_at (partition_object settings) s p) l ≡ [] → at_once (ruled_at (partition_object settings) s p) l ≡ [] → (written : List ℕ) → HasGoneOn form settings all s (going settings s p l) (following settings s p l) written written
-quiet_follows form settings all s p l amid low none later written =
+    → asked_by (ruled_at (partition_object settings) s p) l ≡ [] → at_once (ruled_at (partition_object settings) s p) l ≡ [] → (earlier : List Told) → HasGoneOn form settings all s (going settings s p l) (following settings s p l) earlier earlier
+quiet_follows form settings all s p l amid low none later earlier =
     let o = partition_object settings in
     let j = ruled_at o s p in
     let there : List (event.Event Request) → RuledRun = λ es. record { run = takes_each o [] s.run p es; masters = s.masters } in
     let same : goes o [] s p l ≡ s = quiet_goes o [] s p l low none ∙ ap there later in
     let told : following settings s p l [] ≡ [] =
-    ap (λ ds. published_texts o s.run.lines p (length j.masters.published + 1) (event.run o j.world (at_once j l)) ds ++ texts_of (new_messages s.run (goes o [] s p l).run)) (nothing_published j l none)
-    ∙ ap (λ (x : RuledRun). texts_of (new_messages s.run x.run)) same ∙ ap (λ ms. texts_of ms) (no_messages s.run)
+    ap (λ ds. all_published o p (length j.masters.published + 1) (event.run o j.world (at_once j l)) ds ++ all_told (new_messages s.run (goes o [] s p l).run)) (nothing_published j l none)
+    ∙ ap (λ (x : RuledRun). all_told (new_messages s.run x.run)) same ∙ ap (λ ms. all_told ms) (no_messages s.run)
     in
     record {
       skips = [];
       own = λ id c. absurd (in_contains id [] c);
       amid = subst (IsAmid form settings all) (sym same) amid;
-      added = sym (append-nil written) ∙ ap (λ t. written ++ t) (sym told);
+      added = sym (append-nil earlier) ∙ ap (λ t. earlier ++ t) (sym told);
     }
 
 -- detections

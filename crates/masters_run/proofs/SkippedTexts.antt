@@ -36,7 +36,7 @@ once : (s : RuledRun) → Grows s.run (counted s).run
 once s = record { events = ([], append-nil s.run.events); arrivals = ([], append-nil s.run.arrivals); appended = ([], append-nil s.run.appended); full = λ e. e }
 
 -- So many messages are handed over between masters, and what follows each is the same.
-abbrev pub AreAlike : Object Request Partition → List CallId → List CallId → RuledRun → ℕ → ℕ → Type 0
+abbrev AreAlike : Object Request Partition → List CallId → List CallId → RuledRun → ℕ → ℕ → Type 0
 AreAlike o k t s p most = (handed_over o k s p most ≡ handed_over o t s p most) × (followed_each o k s p most ≡ followed_each o t s p most)
 
 -- Of two lists of skips: what holds from a run to a later one if they skip the same of what is tried between.
@@ -63,7 +63,7 @@ module _ (settings : Settings) (k t : List CallId) (A : Run → Run → Type 0)
   followed_same : (s : RuledRun) (p : ℕ) (l : Line Request) → AsksNoCall l → A s.run (goes o k s p l).run → followed o k s p l ≡ followed o t s p l
   followed_same s p l q a = ap (followed_to s p l) (same s (λ x. goes o x s p l) (goes_goes o s p l q) a)
 
-  pub followed_in_same : (s : RuledRun) (l : Line Request) (ps : List ℕ) → AsksNoCall l → A s.run (goes_in o k s l ps).run → followed_in o k s l ps ≡ followed_in o t s l ps
+  followed_in_same : (s : RuledRun) (l : Line Request) (ps : List ℕ) → AsksNoCall l → A s.run (goes_in o k s l ps).run → followed_in o k s l ps ≡ followed_in o t s l ps
   followed_in_same s l [] q a = refl
   followed_in_same s l (p ∷ ps) q a =
       let mid = goes o k s p l in
@@ -85,7 +85,7 @@ module _ (settings : Settings) (k t : List CallId) (A : Run → Run → Type 0)
   abbrev AreHandedSo : RuledRun → ℕ → ℕ → Type 0
   AreHandedSo s p most = AreAlike o k t s p most
 
-  pub handed_same : (most : ℕ) (s : RuledRun) (p : ℕ) → A s.run (flowed_between o k s p most).run → AreHandedSo s p most
+  handed_same : (most : ℕ) (s : RuledRun) (p : ℕ) → A s.run (flowed_between o k s p most).run → AreHandedSo s p most
   handed_same zero s p a = (refl, refl)
   handed_same (suc most) s p a = go (link_between (masters_at s p)) a (λ x. handed_same most x p)
     where
@@ -170,10 +170,10 @@ module _ (settings : Settings) (k t : List CallId) where
   abbrev new_in : (r next : Run) (g : Grows r next) (a : Arrival) → In a g.arrivals.0 → In a (new_arrivals r next)
   new_in r next g a i = subst (In a) (sym (new_of r next g.arrivals)) i
 
-  first_agree : (r mid last : Run) → Grows r mid → Grows mid last → AgreeBetween r last → AgreeBetween r mid
+  pub first_agree : (r mid last : Run) → Grows r mid → Grows mid last → AgreeBetween r last → AgreeBetween r mid
   first_agree r mid last g h all a there = all a (contains_in a (new_arrivals r last) (new_in r last (grows_trans r mid last g h) a (in_left a g.arrivals.0 h.arrivals.0 (subst (In a) (new_of r mid g.arrivals) (in_contains a (new_arrivals r mid) there)))))
 
-  rest_agree : (r mid last : Run) → Grows r mid → Grows mid last → AgreeBetween r last → AgreeBetween mid last
+  pub rest_agree : (r mid last : Run) → Grows r mid → Grows mid last → AgreeBetween r last → AgreeBetween mid last
   rest_agree r mid last g h all a there = all a (contains_in a (new_arrivals r last) (new_in r last (grows_trans r mid last g h) a (in_right a g.arrivals.0 h.arrivals.0 (subst (In a) (new_of mid last h.arrivals) (in_contains a (new_arrivals mid last) there)))))
 
   tried_agree : (r : Run) (onward : List CallId → Run) (g : GoesBy r onward) → AgreeBetween r (onward k) → Agree (g.tries k) k t
@@ -184,13 +184,6 @@ module _ (settings : Settings) (k t : List CallId) where
 
   pub text_alike : (s : RuledRun) (l : ScriptLine) (next : RuledRun) → AgreeBetween s.run (after_line (partition_object settings) k s l).run → line_text settings k s l next ≡ line_text settings t s l next
   text_alike = text_same settings k t AgreeBetween first_agree rest_agree tried_agree
-
-  pub followed_in_alike : (s : RuledRun) (l : Line Request) (ps : List ℕ) → AsksNoCall l → AgreeBetween s.run (goes_in (partition_object settings) k s l ps).run
-      → followed_in (partition_object settings) k s l ps ≡ followed_in (partition_object settings) t s l ps
-  followed_in_alike = followed_in_same settings k t AgreeBetween first_agree rest_agree tried_agree
-
-  pub handed_alike : (most : ℕ) (s : RuledRun) (p : ℕ) → AgreeBetween s.run (flowed_between (partition_object settings) k s p most).run → AreAlike (partition_object settings) k t s p most
-  handed_alike = handed_same settings k t AgreeBetween first_agree rest_agree tried_agree
 
 -- and where the run tells of no skip
 

@@ -1,12 +1,14 @@
 pub mod Runs
 pub mod AfterLines
 pub mod Printing
+pub mod LineTold
 pub mod Standing
 pub mod Laws
 pub mod Examples
 pub mod Written
 pub mod Answers
 pub mod Grids
+pub mod AsText
 pub mod Steps
 pub mod Parts
 pub mod ByMachine

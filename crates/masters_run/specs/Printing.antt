@@ -15,6 +15,7 @@ use Rattle.masters_world.specs.Decisions.{Decision, event_of}
 use Rattle.masters_world.specs.Machine.{Ruled, Line, Asks, Told, asked_by, masters_say, at_once, published_by}
 use Rattle.script_lang.specs.declared.line.Line.{Line as ScriptLine}
 use Rattle.script_lang.specs.declared.line.Line.TheVariants as line
+pub use Rattle.line_told.specs.Outcomes.{master_words}
 use Rattle.replay_run.specs.Dumps.{number}
 use Rattle.replay_run.specs.Runs.{partitions}
 use Rattle.replay_run.specs.Appending.{appended_text, new_messages}
@@ -22,22 +23,6 @@ use Rattle.replay_run.specs.Printing.{ok_text, nothing_text, flow_text, words_li
 use Rattle.replay_run.specs.Printing as grid
 use Rattle.masters_run.specs.Runs.{RuledRun, has_masters, masters_at, ruled_at, goes, link_between, handing_over, counted}
 use Rattle.masters_run.specs.AfterLines.{Asked, asked_at}
-
--- what the masters answer
-
-abbrev pub master_words : masters.Outcome → List ℕ
-master_words masters.NothingDone = codes "nothing"
-master_words masters.Done = codes "ok"
-master_words (masters.Proposed n) = codes "proposed " ++ decimal n
-master_words (masters.RefusedBusy length) = codes "refused busy"
-master_words masters.RefusedFull = codes "refused full"
-master_words masters.StoreTaken = codes "took stored"
-master_words masters.Counted = codes "took counted"
-master_words masters.Asked = codes "took asked"
-master_words masters.TellKept = codes "took told"
-master_words masters.Other = codes "took other"
-master_words masters.Stale = codes "took stale"
-master_words masters.Dropped = codes "took dropped"
 
 -- what an event of a partition comes to
 abbrev pub event_words : {State : Type 0} → Object Request State → World Request → Event Request → List ℕ

@@ -1,29 +1,30 @@
 //! The lines `flow` and `mflow`, where a grid has masters.
 
-ghost use Rattle.std.specs.Prelude.{◌≡◌, ◌<◌, ◌≤◌, OnOk, IfOk, IsErrOf};
+ghost use Rattle.std.specs.Prelude.{◌≡◌, ◌<◌, ◌≤◌, IfOk};
 ghost use Rattle.call_engine.specs.Calls.{Settings};
 ghost use Rattle.replay_run.specs.Runs.{partitions};
 ghost use Rattle.replay_run.specs.Grids.{boxed};
-ghost use Rattle.replay_run.specs.declared.run_end.RunEnd.TheVariants as RunEnds;
-ghost use Rattle.script_lang.specs.declared.line.Line.{Line as ScriptLine};
 ghost use Rattle.script_lang.specs.declared.line.Line.TheVariants as ScriptLines;
 ghost use Rattle.call_engine.specs.Objects.{partition_object};
 ghost use Rattle.replay_run.specs.Runs.{world_at};
-ghost use Rattle.masters_run.specs.Runs.{RuledRun, link_to_member, member_reached, flowed, flowed_between};
-ghost use Rattle.masters_run.specs.Grids.{Stands, MayRun, HasMasters, HasRun, IsGivenUp};
-ghost use Rattle.masters_run.specs.Steps.{IsAmid, MayFlow, GivesUp, HasFlowed, HasFlowedBetween};
+ghost use Rattle.masters_run.specs.Runs.{RuledRun, link_to_member, member_reached};
+ghost use Rattle.masters_run.specs.Grids.{MayRun, HasMasters, Runs, GivesUpIfFull};
+ghost use Rattle.masters_run.specs.Steps.{IsAmid, MayFlow, Delivers, HandsOver, StopsIfFull, delivering, handing};
 
 use crate::grid::RuledGrid;
+use crate::outcomes::tell_with;
 use grid_base::{PARTITIONS, PartitionId};
+use line_told::{LineOutcome, Told};
 use partition_world::{Event, Link};
-use replay_run::{RunEnd, push_flow, push_text};
+use replay_run::RunEnd;
 use std::alloc::Global;
 
 impl RuledGrid {
     /// The first of a partition's links to a member that has a message, if one has, in order of the senders and the members.
     fn link_to_member(&self, partition: PartitionId) -> Option<Link>
         requires { partition < partitions }
-        ensures { (settings : Settings) (s : RuledRun) → IsAmid (boxed form) settings self.now s → result ≡ link_to_member (world_at (partition_object settings) s.run partition) }
+        ensures { (settings : Settings) (s : RuledRun) → IsAmid (boxed form) settings self.now s
+            → result ≡ link_to_member (world_at (partition_object settings) s.run partition) }
     {
         let service = self.grid.members();
         for from in 0..service {
@@ -38,7 +39,8 @@ impl RuledGrid {
     /// The first member to whom a message from that end is in flight.
     fn member_reached(&self, partition: PartitionId, from: u8) -> Option<u8>
         requires { partition < partitions }
-        ensures { (settings : Settings) (s : RuledRun) → IsAmid (boxed form) settings self.now s → result ≡ member_reached (world_at (partition_object settings) s.run partition) from }
+        ensures { (settings : Settings) (s : RuledRun) → IsAmid (boxed form) settings self.now s
+            → result ≡ member_reached (world_at (partition_object settings) s.run partition) from }
     {
         let world = self.grid.world(partition)?;
         for to in 0..self.grid.members() {
@@ -55,14 +57,13 @@ impl RuledGrid {
         alloc: Global,
         partition: PartitionId,
         most: u32,
-        out: &mut Vec<u8>,
+        out: &mut Vec<Told>,
     ) -> Result<u32, RunEnd>
         requires may { MayFlow (boxed form) self.old partition most }
         requires most { most ≤ 1000 }
-        ensures ok { (settings : Settings) (s : RuledRun) → IsAmid (boxed form) settings self.old s
-            → IfOk result (λ deliveries. HasFlowed (boxed form) settings self.new s partition most deliveries out.old.items out.new.items) }
+        ensures ok { Delivers (boxed form) self.old self.new partition most result out.old.items out.new.items }
         ensures most { IfOk result (λ deliveries. deliveries ≤ most) }
-        ensures full { (settings : Settings) (s : RuledRun) → IsAmid (boxed form) settings self.old s → IsErrOf result RunEnds.InFlight → GivesUp s (λ skips. flowed (partition_object settings) skips s partition most) }
+        ensures full { StopsIfFull (boxed form) self.old result (λ settings s. delivering settings s partition most) }
     {
         let mut deliveries = 0;
         while deliveries < most {
@@ -70,7 +71,7 @@ impl RuledGrid {
                 return Ok(deliveries);
             };
             let delivery = Event::Deliver { from, to, place: 0 };
-            self.grid.print_event(alloc, partition, delivery, out)?;
+            self.grid.take(alloc, partition, delivery, out)?;
             deliveries += 1;
         }
         Ok(deliveries)
@@ -83,18 +84,17 @@ impl RuledGrid {
         number: u32,
         partition: PartitionId,
         most: u32,
-        out: &mut Vec<u8>,
+        out: &mut Vec<Told>,
     ) -> Result<(), RunEnd>
         requires may { MayRun (boxed form) self.old number (ScriptLines.Flow partition most) }
         requires ruled { HasMasters (boxed form) self.old }
-        ensures ok { (settings : Settings) (s : RuledRun) → Stands (boxed form) settings self.old s → OnOk result (HasRun (boxed form) settings self.new s (ScriptLines.Flow partition most) out.old.items out.new.items) }
-        ensures full { (settings : Settings) (s : RuledRun) → Stands (boxed form) settings self.old s → IsErrOf result RunEnds.InFlight → IsGivenUp settings s (ScriptLines.Flow partition most) }
+        ensures ok { Runs (boxed form) self.old self.new (ScriptLines.Flow partition most) result out.old.items out.new.items }
+        ensures full { GivesUpIfFull (boxed form) self.old (ScriptLines.Flow partition most) result }
     {
         self.count(number);
-        let mut text = Vec::new(alloc);
-        let deliveries = self.deliver_to_members(alloc, partition, most, &mut text)?;
-        push_flow(out, number, deliveries)?;
-        Ok(push_text(out, text.as_slice())?)
+        let mut messages = Vec::new(alloc);
+        let deliveries = self.deliver_to_members(alloc, partition, most, &mut messages)?;
+        Ok(tell_with(out, LineOutcome::Flowed { deliveries }, &mut messages)?)
     }
 
     /// `flow all K`: the same in each partition, in their order.
@@ -103,21 +103,20 @@ impl RuledGrid {
         alloc: Global,
         number: u32,
         most: u32,
-        out: &mut Vec<u8>,
+        out: &mut Vec<Told>,
     ) -> Result<(), RunEnd>
         requires may { MayRun (boxed form) self.old number (ScriptLines.FlowAll most) }
         requires ruled { HasMasters (boxed form) self.old }
-        ensures ok { (settings : Settings) (s : RuledRun) → Stands (boxed form) settings self.old s → OnOk result (HasRun (boxed form) settings self.new s (ScriptLines.FlowAll most) out.old.items out.new.items) }
-        ensures full { (settings : Settings) (s : RuledRun) → Stands (boxed form) settings self.old s → IsErrOf result RunEnds.InFlight → IsGivenUp settings s (ScriptLines.FlowAll most) }
+        ensures ok { Runs (boxed form) self.old self.new (ScriptLines.FlowAll most) result out.old.items out.new.items }
+        ensures full { GivesUpIfFull (boxed form) self.old (ScriptLines.FlowAll most) result }
     {
         self.count(number);
-        let mut text = Vec::new(alloc);
+        let mut messages = Vec::new(alloc);
         let mut deliveries = 0;
         for partition in 0..PARTITIONS {
-            deliveries += self.deliver_to_members(alloc, partition, most, &mut text)?;
+            deliveries += self.deliver_to_members(alloc, partition, most, &mut messages)?;
         }
-        push_flow(out, number, deliveries)?;
-        Ok(push_text(out, text.as_slice())?)
+        Ok(tell_with(out, LineOutcome::Flowed { deliveries }, &mut messages)?)
     }
 
     /// Delivers up to so many messages between the masters of a partition, and tells how many.
@@ -126,14 +125,13 @@ impl RuledGrid {
         alloc: Global,
         partition: PartitionId,
         most: u32,
-        out: &mut Vec<u8>,
+        out: &mut Vec<Told>,
     ) -> Result<u32, RunEnd>
         requires may { MayFlow (boxed form) self.old partition most }
         requires most { most ≤ 1000 }
-        ensures ok { (settings : Settings) (s : RuledRun) → IsAmid (boxed form) settings self.old s
-            → IfOk result (λ deliveries. HasFlowedBetween (boxed form) settings self.new s partition most deliveries out.old.items out.new.items) }
+        ensures ok { HandsOver (boxed form) self.old self.new partition most result out.old.items out.new.items }
         ensures most { IfOk result (λ deliveries. deliveries ≤ most) }
-        ensures full { (settings : Settings) (s : RuledRun) → IsAmid (boxed form) settings self.old s → IsErrOf result RunEnds.InFlight → GivesUp s (λ skips. flowed_between (partition_object settings) skips s partition most) }
+        ensures full { StopsIfFull (boxed form) self.old result (λ settings s. handing settings s partition most) }
     {
         let mut deliveries = 0;
         while deliveries < most {
@@ -154,17 +152,16 @@ impl RuledGrid {
         number: u32,
         partition: PartitionId,
         most: u32,
-        out: &mut Vec<u8>,
+        out: &mut Vec<Told>,
     ) -> Result<(), RunEnd>
         requires may { MayRun (boxed form) self.old number (ScriptLines.MasterFlow partition most) }
         requires ruled { HasMasters (boxed form) self.old }
-        ensures ok { (settings : Settings) (s : RuledRun) → Stands (boxed form) settings self.old s → OnOk result (HasRun (boxed form) settings self.new s (ScriptLines.MasterFlow partition most) out.old.items out.new.items) }
-        ensures full { (settings : Settings) (s : RuledRun) → Stands (boxed form) settings self.old s → IsErrOf result RunEnds.InFlight → IsGivenUp settings s (ScriptLines.MasterFlow partition most) }
+        ensures ok { Runs (boxed form) self.old self.new (ScriptLines.MasterFlow partition most) result out.old.items out.new.items }
+        ensures full { GivesUpIfFull (boxed form) self.old (ScriptLines.MasterFlow partition most) result }
     {
         self.count(number);
-        let mut text = Vec::new(alloc);
-        let deliveries = self.deliver_to_masters(alloc, partition, most, &mut text)?;
-        push_flow(out, number, deliveries)?;
-        Ok(push_text(out, text.as_slice())?)
+        let mut messages = Vec::new(alloc);
+        let deliveries = self.deliver_to_masters(alloc, partition, most, &mut messages)?;
+        Ok(tell_with(out, LineOutcome::Flowed { deliveries }, &mut messages)?)
     }
 }

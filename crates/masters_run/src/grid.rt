@@ -8,23 +8,25 @@ ghost use Rattle.partition_protocol.specs.Events.{Deliver as DeliverEvent};
 ghost use Rattle.replay_run.specs.Runs.{Run, partitions, is_open, connection_of, next_line};
 ghost use Rattle.replay_run.specs.Grids.{boxed};
 ghost use Rattle.replay_run.specs.Grids as grid;
-ghost use Rattle.replay_run.specs.Printing.{nothing_text};
+ghost use Rattle.line_told.specs.declared.told.LineOutcome.TheVariants as outcome;
+ghost use Rattle.replay_run.specs.LineTold.{came_to};
 ghost use Rattle.replay_run.specs.WorldCalls.{open_member_in};
 ghost use Rattle.replay_run.specs.WorldCalls as amid;
 ghost use Rattle.replay_run.specs.declared.run_end.RunEnd.{RunEnd as RunEndOf};
 ghost use Rattle.replay_run.specs.declared.run_end.RunEnd.TheVariants as RunEnds;
 ghost use Rattle.script_lang.specs.declared.line.Line.TheVariants as ScriptLines;
 ghost use Rattle.masters_run.specs.Runs.{RuledRun, begun, ruled_at};
-ghost use Rattle.masters_run.specs.Grids.{Stands, MayRun, HasMasters, HasRun, IsGivenUp};
+ghost use Rattle.masters_run.specs.Grids.{Stands, MayRun, HasMasters, Runs, Gives, GivesUpIfFull};
 ghost use Rattle.masters_run.specs.Parts.{MayBeNext, HasNoMasters, ProposesNothing, IsProposalOf, is_held_back, GoesOn, is_of_masters, HaveCrashed};
 ghost use Rattle.masters_run.specs.Written.{as_written};
 
 use crate::decisions::decision_by;
 use entry_processors::Processor;
 use grid_base::{MemberId, Memory, PARTITIONS, PartitionId};
+use line_told::{LineOutcome, Ready, Told};
 use master_log::Masters;
 use master_wire::Decision;
-use replay_run::{Grid, RunEnd, push_nothing, push_ok};
+use replay_run::{Grid, RunEnd, tell_outcome};
 use script_lang::Line;
 use std::alloc::{AllocError, Global};
 
@@ -99,8 +101,8 @@ impl RuledGrid {
         self.grid.takes_bytes(conn)
     }
 
-    /// Runs the line of that number, which is the next one, and appends its text. After an error the grid and the text are
-    /// given up: for want of memory, or where a link between members, or between masters, had 65,400 messages or more in
+    /// Runs the line of that number, which is the next one, and adds what it tells. After an error the grid and what it told
+    /// are given up: for want of memory, or where a link between members, or between masters, had 65,400 messages or more in
     /// flight as an event came that may send.
     ///
     /// Costs what the line costs the grid (`Grid::run_line`), and in addition what it costs the masters of its partition: a
@@ -111,11 +113,11 @@ impl RuledGrid {
         alloc: Global,
         number: u32,
         line: &Line,
-        out: &mut Vec<u8>,
+        out: &mut Ready,
     ) -> Result<(), RunEnd>
         requires { MayRun (boxed form) self.old number line.now }
-        ensures ok { (settings : Settings) (s : RuledRun) → Stands (boxed form) settings self.old s → OnOk result (HasRun (boxed form) settings self.new s line.now out.old.items out.new.items) }
-        ensures full { (settings : Settings) (s : RuledRun) → Stands (boxed form) settings self.old s → IsErrOf result RunEnds.InFlight → IsGivenUp settings s line.now }
+        ensures ok { Gives (boxed form) self.old self.new line.now result out.old out.new }
+        ensures full { GivesUpIfFull (boxed form) self.old line.now result }
     {
         if self.masters.is_empty() {
             self.run_unruled(alloc, number, line, out)
@@ -130,31 +132,36 @@ impl RuledGrid {
         alloc: Global,
         number: u32,
         line: &Line,
-        out: &mut Vec<u8>,
+        out: &mut Ready,
     ) -> Result<(), RunEnd>
         requires may { MayRun (boxed form) self.old number line.now }
         requires none { HasNoMasters (boxed form) self.old }
-        ensures ok { (settings : Settings) (s : RuledRun) → Stands (boxed form) settings self.old s → OnOk result (HasRun (boxed form) settings self.new s line.now out.old.items out.new.items) }
-        ensures full { (settings : Settings) (s : RuledRun) → Stands (boxed form) settings self.old s → IsErrOf result RunEnds.InFlight → IsGivenUp settings s line.now }
+        ensures ok { Gives (boxed form) self.old self.new line.now result out.old out.new }
+        ensures full { GivesUpIfFull (boxed form) self.old line.now result }
     {
         match line {
-            Line::Masters if number == 2 => self.begin_masters(alloc, number, out),
-            _ => self.grid.print_line(alloc, number, line, out),
+            Line::Masters if number == 2 => self.begin_masters(alloc, number, &mut out.told),
+            _ => self.grid.run_line(alloc, number, line, out),
         }
     }
 
     /// `masters`, as line 2: from here on the table service of each partition runs on the members. Costs, in each partition,
     /// the members and the links between them.
-    fn begin_masters(&mut self, alloc: Global, number: u32, out: &mut Vec<u8>) -> Result<(), RunEnd>
+    fn begin_masters(
+        &mut self,
+        alloc: Global,
+        number: u32,
+        out: &mut Vec<Told>,
+    ) -> Result<(), RunEnd>
         requires may { MayRun (boxed form) self.old number ScriptLines.Masters }
         requires second { number ≡ 2 }
         requires none { HasNoMasters (boxed form) self.old }
-        ensures ok { (settings : Settings) (s : RuledRun) → Stands (boxed form) settings self.old s → OnOk result (HasRun (boxed form) settings self.new s ScriptLines.Masters out.old.items out.new.items) }
+        ensures ok { Runs (boxed form) self.old self.new ScriptLines.Masters result out.old.items out.new.items }
         ensures memory { (end : RunEndOf) → IsErrOf result end → end ≡ RunEnds.Memory }
     {
         self.masters = opening_masters(alloc, self.grid.members())?;
         self.count(number);
-        Ok(push_ok(out, number)?)
+        Ok(tell_outcome(out, LineOutcome::Ran)?)
     }
 
     /// Runs a line of a grid that has masters.
@@ -163,18 +170,18 @@ impl RuledGrid {
         alloc: Global,
         number: u32,
         line: &Line,
-        out: &mut Vec<u8>,
+        out: &mut Ready,
     ) -> Result<(), RunEnd>
         requires may { MayRun (boxed form) self.old number line.now }
         requires ruled { HasMasters (boxed form) self.old }
-        ensures ok { (settings : Settings) (s : RuledRun) → Stands (boxed form) settings self.old s → OnOk result (HasRun (boxed form) settings self.new s line.now out.old.items out.new.items) }
-        ensures full { (settings : Settings) (s : RuledRun) → Stands (boxed form) settings self.old s → IsErrOf result RunEnds.InFlight → IsGivenUp settings s line.now }
+        ensures ok { Gives (boxed form) self.old self.new line.now result out.old out.new }
+        ensures full { GivesUpIfFull (boxed form) self.old line.now result }
     {
         if let Some((partition, decision)) = self.proposal_of(alloc, line)? {
-            return self.run_proposal(alloc, number, partition, &decision, out);
+            return self.run_proposal(alloc, number, partition, &decision, &mut out.told);
         }
         if self.is_held_back(line) {
-            return Ok(self.pass(number, out)?);
+            return Ok(self.pass(number, &mut out.told)?);
         }
         self.run_at_once(alloc, number, line, out)
     }
@@ -186,36 +193,36 @@ impl RuledGrid {
         alloc: Global,
         number: u32,
         line: &Line,
-        out: &mut Vec<u8>,
+        out: &mut Ready,
     ) -> Result<(), RunEnd>
         requires may { MayRun (boxed form) self.old number line.now }
         requires ruled { HasMasters (boxed form) self.old }
         requires nothing { ProposesNothing (boxed form) self.old line.now }
         requires goes_on { GoesOn (boxed form) self.old line.now }
-        ensures ok { (settings : Settings) (s : RuledRun) → Stands (boxed form) settings self.old s → OnOk result (HasRun (boxed form) settings self.new s line.now out.old.items out.new.items) }
-        ensures full { (settings : Settings) (s : RuledRun) → Stands (boxed form) settings self.old s → IsErrOf result RunEnds.InFlight → IsGivenUp settings s line.now }
+        ensures ok { Gives (boxed form) self.old self.new line.now result out.old out.new }
+        ensures full { GivesUpIfFull (boxed form) self.old line.now result }
     {
         match line {
             Line::Told { member, crashed } => {
-                self.run_told(alloc, number, *member, *crashed, out)
+                self.run_told(alloc, number, *member, *crashed, &mut out.told)
             }
             Line::MasterDeliver {
                 partition,
                 from,
                 to,
                 place,
-            } => self.run_delivery(alloc, number, *partition, *from, *to, *place, out),
+            } => self.run_delivery(alloc, number, *partition, *from, *to, *place, &mut out.told),
             Line::MasterLose {
                 partition,
                 from,
                 to,
                 place,
-            } => self.run_loss(alloc, number, *partition, *from, *to, *place, out),
+            } => self.run_loss(alloc, number, *partition, *from, *to, *place, &mut out.told),
             Line::MasterResend { partition, member } => {
-                self.run_resending(alloc, number, *partition, *member, out)
+                self.run_resending(alloc, number, *partition, *member, &mut out.told)
             }
             Line::MasterFlow { partition, most } => {
-                self.run_master_flow(alloc, number, *partition, *most, out)
+                self.run_master_flow(alloc, number, *partition, *most, &mut out.told)
             }
             _ => self.run_unasked(alloc, number, line, out),
         }
@@ -227,27 +234,27 @@ impl RuledGrid {
         alloc: Global,
         number: u32,
         line: &Line,
-        out: &mut Vec<u8>,
+        out: &mut Ready,
     ) -> Result<(), RunEnd>
         requires may { MayRun (boxed form) self.old number line.now }
         requires ruled { HasMasters (boxed form) self.old }
         requires nothing { ProposesNothing (boxed form) self.old line.now }
         requires goes_on { GoesOn (boxed form) self.old line.now }
         requires other { is_of_masters line.now ≡ false }
-        ensures ok { (settings : Settings) (s : RuledRun) → Stands (boxed form) settings self.old s → OnOk result (HasRun (boxed form) settings self.new s line.now out.old.items out.new.items) }
-        ensures full { (settings : Settings) (s : RuledRun) → Stands (boxed form) settings self.old s → IsErrOf result RunEnds.InFlight → IsGivenUp settings s line.now }
+        ensures ok { Gives (boxed form) self.old self.new line.now result out.old out.new }
+        ensures full { GivesUpIfFull (boxed form) self.old line.now result }
     {
         match line {
             Line::Flow { partition, most } => {
-                self.run_flow(alloc, number, *partition, *most, out)
+                self.run_flow(alloc, number, *partition, *most, &mut out.told)
             }
-            Line::FlowAll { most } => self.run_flow_all(alloc, number, *most, out),
-            Line::Detect { member } => self.run_detection(alloc, number, *member, out),
+            Line::FlowAll { most } => self.run_flow_all(alloc, number, *most, &mut out.told),
+            Line::Detect { member } => self.run_detection(alloc, number, *member, &mut out.told),
             Line::Crash { member } => {
                 self.crash(*member);
-                self.grid.print_line(alloc, number, line, out)
+                self.grid.run_line(alloc, number, line, out)
             }
-            _ => self.grid.print_line(alloc, number, line, out),
+            _ => self.grid.run_line(alloc, number, line, out),
         }
     }
 
@@ -360,14 +367,14 @@ impl RuledGrid {
     }
 
     /// Counts a line whose condition is false.
-    fn pass(&mut self, number: u32, out: &mut Vec<u8>) -> Result<(), Memory>
+    fn pass(&mut self, number: u32, out: &mut Vec<Told>) -> Result<(), Memory>
         requires { grid.MayRun (boxed form) self.old.grid number ScriptLines.Comment }
         ensures amid { (settings : Settings) (r : Run) → grid.Stands (boxed form) settings self.old.grid r
             → amid.IsAmid (boxed form) settings self.new.grid (next_line r) }
         ensures masters { self.new.masters ≡ self.old.masters }
-        ensures text { OnOk result (out.new.items ≡ out.old.items ++ nothing_text number) }
+        ensures told { OnOk result (out.new.items ≡ out.old.items ++ came_to outcome.Idle) }
     {
         self.count(number);
-        push_nothing(out, number)
+        tell_outcome(out, LineOutcome::Idle)
     }
 }

@@ -8,13 +8,14 @@
 //! The run of such a grid is a run of the grid (`specs/`), so all that holds of runs holds of these.
 #![tactic(auto)]
 
+mod as_text;
 mod decisions;
 mod flows;
 mod grid;
 mod laws;
 mod lines;
 mod looking;
-mod print;
+mod outcomes;
 mod publishing;
 pub mod waiting_laws;
 

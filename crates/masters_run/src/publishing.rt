@@ -1,32 +1,31 @@
 //! What the masters of a partition are asked, and what then happens to the partition: where a decision is published, its event.
 
-ghost use Rattle.std.specs.Prelude.{◌≡◌, ◌<◌, true, false, [], length, IfOk, OnOk, IsErrOf};
+ghost use Rattle.std.specs.Prelude.{◌≡◌, ◌<◌, true, false, [], length, OnOk, IsErrOf};
 ghost use Rattle.grid_base.specs.declared.calls.Request.{Request as Call};
 ghost use Rattle.call_engine.specs.Calls.{Settings};
-ghost use Rattle.call_engine.specs.Objects.{partition_object};
 ghost use Rattle.master_log.specs.Outcomes.{done_if};
 ghost use Rattle.master_member.specs.Outcomes.{outcome_of};
-ghost use Rattle.masters_world.specs.Machine.{Line, Asks, Told, MasterDeliver, MasterResend};
+ghost use Rattle.masters_world.specs.Machine.{Line, Told as ToldLine, MasterDeliver, MasterResend};
 ghost use Rattle.partition_protocol.specs.Arrivals.{asked_by};
-ghost use Rattle.partition_protocol.specs.Events.{Event as ProtocolEvent};
 ghost use Rattle.partition_world.specs.Events.{event_of};
-ghost use Rattle.replay_run.specs.Runs.{Run, partitions, takes};
+ghost use Rattle.replay_run.specs.Runs.{Run, partitions};
 ghost use Rattle.replay_run.specs.Grids.{boxed};
 ghost use Rattle.replay_run.specs.WorldCalls as grid;
-ghost use Rattle.replay_run.specs.WorldCalls.{HasRoomAt, GivesUpSo};
+ghost use Rattle.replay_run.specs.WorldCalls.{HasRoomAt};
 ghost use Rattle.replay_run.specs.declared.run_end.RunEnd.TheVariants as RunEnds;
 ghost use Rattle.masters_run.specs.Runs.{RuledRun, masters_at, has_full_link};
-ghost use Rattle.masters_run.specs.Answers.{answer_of};
-ghost use Rattle.masters_run.specs.Steps.{IsAmid, MayAsk, MayPropose, HasGoneOn, GivesUp, going, following, HasAsked, Proposes, HasAskedMasters, HasTaken};
+ghost use Rattle.masters_run.specs.Steps.{IsAmid, MayAsk, MayPropose, going, HasAskedMasters};
+ghost use Rattle.masters_run.specs.Steps.{Answers, AnswersProposal, Follows, Takes, StopsIfFull, StopsProposal, StopsFollowing, StopsTaking};
 
 use crate::decisions::event_of;
 use crate::grid::RuledGrid;
-use crate::print::push_published;
+use crate::outcomes::{is_detection, published_outcome, tell_published, tell_with};
 use grid_base::{MemberId, PartitionId, Request};
+use line_told::Told;
 use master_log::{MasterTook, ProposeRefused};
 use master_wire::Decision;
 use partition_world::Event;
-use replay_run::{MOST_IN_FLIGHT, RunEnd, done_word, push_fate, push_happened, push_text};
+use replay_run::{MOST_IN_FLIGHT, RunEnd, is_advance};
 use std::alloc::Global;
 
 /// What came of a proposal.
@@ -46,7 +45,8 @@ impl RuledGrid {
     /// How many decisions a partition's masters have published.
     fn published(&self, partition: PartitionId) -> usize
         requires { MayAsk (boxed form) self.now partition }
-        ensures { (settings : Settings) (s : RuledRun) → IsAmid (boxed form) settings self.now s → result ≡ length (masters_at s partition).published }
+        ensures { (settings : Settings) (s : RuledRun) → IsAmid (boxed form) settings self.now s
+            → result ≡ length (masters_at s partition).published }
     {
         self.masters[usize::from(partition)].published().len()
     }
@@ -54,8 +54,10 @@ impl RuledGrid {
     /// Before the masters of a partition are asked what may have them send: none of the links between them may be full.
     fn find_room(&self, partition: PartitionId) -> Result<(), RunEnd>
         requires { MayAsk (boxed form) self.now partition }
-        ensures room { (settings : Settings) (s : RuledRun) → IsAmid (boxed form) settings self.now s → OnOk result (has_full_link (masters_at s partition) ≡ false) }
-        ensures full { (settings : Settings) (s : RuledRun) → IsAmid (boxed form) settings self.now s → IsErrOf result RunEnds.InFlight → has_full_link (masters_at s partition) ≡ true }
+        ensures room { (settings : Settings) (s : RuledRun) → IsAmid (boxed form) settings self.now s
+            → OnOk result (has_full_link (masters_at s partition) ≡ false) }
+        ensures full { (settings : Settings) (s : RuledRun) → IsAmid (boxed form) settings self.now s
+            → IsErrOf result RunEnds.InFlight → has_full_link (masters_at s partition) ≡ true }
     {
         let links = self.masters[usize::from(partition)].links();
         if links.has_crowded_link(MOST_IN_FLIGHT) {
@@ -70,20 +72,18 @@ impl RuledGrid {
         alloc: Global,
         partition: PartitionId,
         before: usize,
-        out: &mut Vec<u8>,
+        out: &mut Vec<Told>,
     ) -> Result<(), RunEnd>
         requires { (settings : Settings) × (s : RuledRun) × (l : Line Call) × HasAskedMasters (boxed form) settings self.old s partition l before × HasRoomAt s.run partition 1 }
-        ensures ok { (settings : Settings) (s : RuledRun) (l : Line Call) → HasAskedMasters (boxed form) settings self.old s partition l before
-            → OnOk result (HasGoneOn (boxed form) settings self.new s (going settings s partition l) (following settings s partition l) out.old.items out.new.items) }
-        ensures full { (settings : Settings) (s : RuledRun) (l : Line Call) → HasAskedMasters (boxed form) settings self.old s partition l before
-            → IsErrOf result RunEnds.InFlight → GivesUp s (going settings s partition l) }
+        ensures ok { Follows (boxed form) self.old self.new partition before result out.old.items out.new.items }
+        ensures full { StopsFollowing (boxed form) self.old partition before result }
     {
         let published = self.masters[usize::from(partition)].published();
         let Some(decision) = published.get(before) else {
             return Ok(());
         };
         let event = event_of(decision, self.grid.members());
-        push_published(out, self.grid.lines(), partition, before + 1)?;
+        tell_published(out, partition, before + 1)?;
         self.run_published(alloc, partition, event, out)
     }
 
@@ -93,30 +93,21 @@ impl RuledGrid {
         alloc: Global,
         partition: PartitionId,
         event: Event<Request>,
-        out: &mut Vec<u8>,
+        out: &mut Vec<Told>,
     ) -> Result<(), RunEnd>
         requires placed { partition < partitions }
         requires unasked { asked_by (event_of event) ≡ [] }
         requires stands { (settings : Settings) × (r : Run) × grid.IsAmid (boxed form) settings self.old.grid r × HasRoomAt r partition 1 }
-        ensures ok { (settings : Settings) (r : Run) → grid.IsAmid (boxed form) settings self.old.grid r
-            → OnOk result (HasTaken (boxed form) settings self.new.grid r partition (event_of event) out.old.items out.new.items) }
-        ensures full { (settings : Settings) (r : Run) → grid.IsAmid (boxed form) settings self.old.grid r → IsErrOf result RunEnds.InFlight
-            → GivesUpSo r (λ skips. takes (partition_object settings) skips r partition (event_of event)) }
+        ensures ok { Takes (boxed form) self.old.grid self.new.grid partition (event_of event) result out.old.items out.new.items }
+        ensures full { StopsTaking (boxed form) self.old.grid partition (event_of event) result }
         ensures masters { self.new.masters ≡ self.old.masters }
     {
-        let line = self.grid.lines();
-        let done = done_word(&event);
-        let detects = matches!(event, Event::Detect { .. });
+        let detects = is_detection(&event);
+        let advances = is_advance(&event);
         let mut messages = Vec::new(alloc);
-        let happened = self
-            .grid
-            .print_event(alloc, partition, event, &mut messages)?;
-        if detects {
-            push_fate(out, line, happened)?;
-        } else {
-            push_happened(out, line, done, happened)?;
-        }
-        Ok(push_text(out, messages.as_slice())?)
+        let happened = self.grid.take(alloc, partition, event, &mut messages)?;
+        let outcome = published_outcome(detects, advances, happened);
+        Ok(tell_with(out, outcome, &mut messages)?)
     }
 
     /// Puts a decision to the masters of a partition.
@@ -125,14 +116,11 @@ impl RuledGrid {
         alloc: Global,
         partition: PartitionId,
         decision: &Decision,
-        out: &mut Vec<u8>,
+        out: &mut Vec<Told>,
     ) -> Result<Proposal, RunEnd>
         requires { MayPropose (boxed form) self.old partition decision.now }
-        // The decision is the one that an event of the partition proposes.
-        ensures ok { (settings : Settings) (s : RuledRun) (e : ProtocolEvent Call) → IsAmid (boxed form) settings self.old s → Proposes settings s partition e decision.now
-            → IfOk result (λ proposal. HasAsked (boxed form) settings self.new s partition (Asks e) (answer_of proposal) out.old.items out.new.items) }
-        ensures full { (settings : Settings) (s : RuledRun) (e : ProtocolEvent Call) → IsAmid (boxed form) settings self.old s → Proposes settings s partition e decision.now
-            → IsErrOf result RunEnds.InFlight → GivesUp s (going settings s partition (Asks e)) }
+        ensures ok { AnswersProposal (boxed form) self.old self.new partition decision.now result out.old.items out.new.items }
+        ensures full { StopsProposal (boxed form) self.old partition decision.now result }
     {
         self.find_room(partition)?;
         let before = self.published(partition);
@@ -154,11 +142,11 @@ impl RuledGrid {
         partition: PartitionId,
         member: MemberId,
         crashed: MemberId,
-        out: &mut Vec<u8>,
+        out: &mut Vec<Told>,
     ) -> Result<bool, RunEnd>
         requires { MayAsk (boxed form) self.old partition }
-        ensures ok { (settings : Settings) (s : RuledRun) → IsAmid (boxed form) settings self.old s → IfOk result (λ done. HasAsked (boxed form) settings self.new s partition (Told member crashed) (done_if done) out.old.items out.new.items) }
-        ensures full { (settings : Settings) (s : RuledRun) → IsAmid (boxed form) settings self.old s → IsErrOf result RunEnds.InFlight → GivesUp s (going settings s partition (Told member crashed)) }
+        ensures ok { Answers (boxed form) self.old self.new partition (ToldLine member crashed) result done_if out.old.items out.new.items }
+        ensures full { StopsIfFull (boxed form) self.old result (λ settings s. going settings s partition (ToldLine member crashed)) }
     {
         self.find_room(partition)?;
         let before = self.published(partition);
@@ -175,11 +163,11 @@ impl RuledGrid {
         from: u8,
         to: u8,
         place: usize,
-        out: &mut Vec<u8>,
+        out: &mut Vec<Told>,
     ) -> Result<MasterTook, RunEnd>
         requires { MayAsk (boxed form) self.old partition }
-        ensures ok { (settings : Settings) (s : RuledRun) → IsAmid (boxed form) settings self.old s → IfOk result (λ took. HasAsked (boxed form) settings self.new s partition (MasterDeliver from to place) (outcome_of took) out.old.items out.new.items) }
-        ensures full { (settings : Settings) (s : RuledRun) → IsAmid (boxed form) settings self.old s → IsErrOf result RunEnds.InFlight → GivesUp s (going settings s partition (MasterDeliver from to place)) }
+        ensures ok { Answers (boxed form) self.old self.new partition (MasterDeliver from to place) result outcome_of out.old.items out.new.items }
+        ensures full { StopsIfFull (boxed form) self.old result (λ settings s. going settings s partition (MasterDeliver from to place)) }
     {
         self.find_room(partition)?;
         let before = self.published(partition);
@@ -196,8 +184,8 @@ impl RuledGrid {
         member: MemberId,
     ) -> Result<bool, RunEnd>
         requires { MayAsk (boxed form) self.old partition }
-        ensures ok { (settings : Settings) (s : RuledRun) → IsAmid (boxed form) settings self.old s → IfOk result (λ done. HasAsked (boxed form) settings self.new s partition (MasterResend member) (done_if done) [] []) }
-        ensures full { (settings : Settings) (s : RuledRun) → IsAmid (boxed form) settings self.old s → IsErrOf result RunEnds.InFlight → GivesUp s (going settings s partition (MasterResend member)) }
+        ensures ok { Answers (boxed form) self.old self.new partition (MasterResend member) result done_if [] [] }
+        ensures full { StopsIfFull (boxed form) self.old result (λ settings s. going settings s partition (MasterResend member)) }
     {
         self.find_room(partition)?; // also where nothing is sent again
         let done = self.masters[usize::from(partition)].resend(alloc, member)?;

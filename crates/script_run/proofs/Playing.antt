@@ -13,6 +13,7 @@ use Rattle.replay_run.specs.Appending.{new_messages}
 use Rattle.replay_run.specs.Grids.{FormOf, most_arriving}
 use Rattle.replay_run.specs.Printing.{nothing_text}
 use Rattle.replay_run.specs.Runs.{Run, Appended}
+use Rattle.masters_run.specs.AsText as printed
 use Rattle.masters_run.specs.Grids as ruled
 use Rattle.masters_run.specs.Grids.{AreOfLine}
 use Rattle.masters_run.specs.Printing as ruled_text
@@ -93,7 +94,7 @@ no_skips settings s line id there = absurd (in_contains id [] there)
 
 -- The grid ran a line.
 
-module _ {V : Type 0} {T : V → Type 0} {form : FormOf V T} {settings : Settings} (new : ScriptGrid V T) (s : ScriptRun) (line : Line) {written text : List ℕ} (ran : ruled.HasRun form settings new.grid (ruled_of s) line written text) where
+module _ {V : Type 0} {T : V → Type 0} {form : FormOf V T} {settings : Settings} (new : ScriptGrid V T) (s : ScriptRun) (line : Line) {written text : List ℕ} (ran : printed.HasRun form settings new.grid (ruled_of s) line written text) where
   abbrev next : Run
   next = (played settings ran.skips s line).run
 

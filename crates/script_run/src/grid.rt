@@ -71,7 +71,7 @@ impl ScriptGrid {
     /// given up: for want of memory, or where a link between members, or between masters, had 65,400 messages or more in
     /// flight as an event came that may send.
     ///
-    /// A line costs what it costs the grid (`RuledGrid::run_line`), and in addition, where there are near clients, its text for
+    /// A line costs what it costs the grid (`RuledGrid::print_line`), and in addition, where there are near clients, its text for
     /// each of them. A look-up that hits costs the copy of its value; `nearfeed` costs what its client makes of the bytes that
     /// it is handed.
     pub fn run_line(
@@ -147,7 +147,7 @@ impl ScriptGrid {
         ensures spoken { self.new.spoken ≡ self.old.spoken }
     {
         let from = out.len();
-        self.grid.run_line(alloc, number, line, out)?;
+        self.grid.print_line(alloc, number, line, out)?;
         if !appends(line) {
             return Ok(());
         }

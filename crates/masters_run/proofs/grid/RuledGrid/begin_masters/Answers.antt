@@ -31,4 +31,4 @@ returns-clause-ok g c = λ settings s stands.
     begins all new s stands (few_lines all c.args.number Masters may s stands) (c.requires.none settings s stands) (omega (arith, at_line, second)) (c.count.ensures.amid settings s.run stands.grid)
     (ap (λ ms. length ms) same ∙ c.in_ok-self.ensures.count)
     (λ p kept there. let its = c.in_ok-self.ensures.each p kept (ap (λ ms. slice_get ms p) (sym same) ∙ there) in (its.0 ∙ is, its.1))
-    c.args.number c.args.out.now.items c.push_ok.new.out.items at_line c.in_ok-push_ok.ensures
+    c.args.out.now.items c.tell_outcome.new.out.items c.in_ok-tell_outcome.ensures

@@ -14,8 +14,8 @@ returns-in_default-clause-ok g c = λ settings s amid.
     none_left settings s p mid c.loop-deliveries.deliveries c.args.out.now.items c.loop-deliveries.out.items did
     (sym (c.link_to_member.ensures settings (by_then settings s p mid c.loop-deliveries.deliveries c.args.out.now.items c.loop-deliveries.out.items did) did.on.amid) ∙ c.in_default.is) c.args.most c.loop-deliveries.invariant.below
 
-pub print_event-requires-clause-stands : goal.print_event-requires-clause-stands
-print_event-requires-clause-stands g c =
+pub take-requires-clause-stands : goal.take-requires-clause-stands
+take-requires-clause-stands g c =
     let may = c.requires.may in
     let p = c.args.partition in
     let mid = c.loop-deliveries.self in
@@ -27,8 +27,8 @@ print_event-requires-clause-stands g c =
       room_left c.args.self.now mid p c.args.most number c.args.out.now.items c.loop-deliveries.out.items may did c.loop-deliveries-test.true,
     )
 
-pub returns-in_err-print_event-clause-full : goal.returns-in_err-print_event-clause-full
-returns-in_err-print_event-clause-full g c = λ settings s amid was.
+pub returns-in_err-take-clause-full : goal.returns-in_err-take-clause-full
+returns-in_err-take-clause-full g c = λ settings s amid was.
     let may = c.requires.may in
     let p = c.args.partition in
     let mid = c.loop-deliveries.self in
@@ -37,10 +37,10 @@ returns-in_err-print_event-clause-full g c = λ settings s amid was.
     let so_far = c.loop-deliveries.out.items in
     let did = c.loop-deliveries.invariant.delivered settings s amid in
     let now = by_then settings s p mid number first so_far did in
-    let why = handed_on c.from_residual.result c.in_err-print_event.field-0.0 InFlight c.from_residual.ensures.1 was in
+    let why = handed_on c.from_residual.result c.in_err-take.field-0.0 InFlight c.from_residual.ensures.1 was in
     meets_full_at settings s p mid number first so_far did c.in-Some.field-0 (sym (c.link_to_member.ensures settings now did.on.amid) ∙ c.in-Some.is)
     (still_low c.args.self.now mid p c.args.most number first so_far may s amid did) (still_ruled c.args.self.now mid p c.args.most number first so_far may s amid did) may.placed c.args.most c.loop-deliveries-test.true
-    (delivery_on c.in-Some.field-0) refl (c.in_err-print_event.ensures.full settings now.run did.on.amid.grid (ap Err why))
+    (delivery_on c.in-Some.field-0) refl (c.in_err-take.ensures.full settings now.run did.on.amid.grid (ap Err why))
 
 pub loop-deliveries-preserved : goal.loop-deliveries-preserved
 loop-deliveries-preserved g c = record {
@@ -56,7 +56,7 @@ loop-deliveries-preserved g c = record {
       let now = by_then settings s p mid number first so_far did in
       one_delivered settings s p mid number first so_far did c.in-Some.field-0 (sym (c.link_to_member.ensures settings now did.on.amid) ∙ c.in-Some.is)
       (still_low c.args.self.now mid p c.args.most number first so_far may s amid did) (still_ruled c.args.self.now mid p c.args.most number first so_far may s amid did) may.placed
-      (record mid { grid = c.print_event.new.self }) refl (delivery_on c.in-Some.field-0) refl c.in_ok-print_event.field-0 c.print_event.new.out.items (c.in_ok-print_event.ensures.ok settings now.run did.on.amid.grid));
+      (record mid { grid = c.take.new.self }) refl (delivery_on c.in-Some.field-0) refl c.in_ok-take.field-0 c.take.new.out.items (c.in_ok-take.ensures.ok settings now.run did.on.amid.grid));
 }
 
 pub returns-clause-ok : goal.returns-clause-ok

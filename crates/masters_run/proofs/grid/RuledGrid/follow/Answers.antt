@@ -1,13 +1,10 @@
 -- What stands behind the old length of the published list was published by the line: nothing, or one decision, whose event then happens.
-use Rattle.std.proofs.Common.{◌∙◌, ◌+◌, ◌++◌, Result, Ok, Err, OnOk, ap}
-use Rattle.std.specs.Prelude.{codes, decimal}
+use Rattle.std.proofs.Common.{◌∙◌, Result, Ok, Err, OnOk, ap}
 use Rattle.grid_base.specs.declared.calls.Request.{Request}
 use Rattle.masters_world.specs.Decisions.{event_of}
 use Rattle.masters_world.proofs.Steps.{of_decision}
 use Rattle.partition_protocol.specs.Arrivals.{asked_by}
 use Rattle.partition_world.specs.Events.{event_of as event_in}
-use Rattle.replay_run.specs.Dumps.{number}
-use Rattle.replay_run.specs.Printing.{words_line}
 use Rattle.masters_run.proofs.MastersAsked.{none_behind, one_behind}
 use Rattle.masters_run.proofs.PublishedEvents.{none_follows, one_follows, full_follows}
 use Rattle.masters_run.proofs.grid.RuledGrid.follow.Goals as goal
@@ -36,10 +33,9 @@ returns-clause-ok g c = λ settings s l h.
     c.in-Some.decision.now c.in-Some.ensures.lookup.3.0 c.in-Some.ensures.lookup.1 in
     let d = one.publishes.decision in
     let its = c.event_of-event.ensures d one.is ∙ ap (λ n. event_of {C = Request} n d) (c.members.ensures settings s.run h.grid.holds) in
-    let began = c.in_ok-push_published.ensures ∙ ap (λ n. c.args.out.now.items ++ words_line n (codes "published " ++ number p ++ decimal (c.args.before + 1))) (c.lines.ensures settings s.run h.grid.holds) in
     on_ok c.run_published.result (c.run_published.ensures.ok settings s.run h.grid)
     (one_follows _ settings c.args.self.now s p l c.args.before h d one.publishes.one (event_in c.event_of-event.result) its c.run_published.new.self c.run_published.ensures.masters
-    c.args.out.now.items c.push_published.new.out.items c.run_published.new.out.items began)
+    c.args.out.now.items c.tell_published.new.out.items c.run_published.new.out.items c.in_ok-tell_published.ensures)
 
 pub returns-clause-full : goal.returns-clause-full
 returns-clause-full g c = λ settings s l h was.

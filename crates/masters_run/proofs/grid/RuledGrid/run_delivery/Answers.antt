@@ -3,9 +3,10 @@ use Rattle.master_member.specs.Outcomes.{outcome_of}
 use Rattle.masters_world.specs.Machine.{MasterDeliver}
 use Rattle.script_lang.specs.declared.line.Line.TheVariants.{MasterDeliver as DeliverLine}
 use Rattle.replay_run.specs.declared.run_end.RunEnd.TheVariants.{InFlight}
+use Rattle.replay_run.specs.LineTold.{came_to}
 use Rattle.replay_run.proofs.Asking.{handed_on}
 use Rattle.masters_run.specs.Runs.{counted}
-use Rattle.masters_run.proofs.LineParts.{may_count, next_number, few_lines, counted_amid, may_ask}
+use Rattle.masters_run.proofs.LineParts.{may_count, few_lines, counted_amid, may_ask}
 use Rattle.masters_run.proofs.OneAsked.{asked_ran, asked_up}
 use Rattle.masters_run.proofs.grid.RuledGrid.run_delivery.Goals as goal
 
@@ -27,7 +28,7 @@ returns-in_err-took-clause-full g c = λ settings s stands was.
     let all = c.args.self.now in
     let amid = counted_amid all s stands c.count.new.self c.count.ensures.masters (c.count.ensures.amid settings s.run stands.grid) in
     let why = handed_on c.from_residual.result c.in_err-took.field-0.0 InFlight c.from_residual.ensures.1 was in
-    asked_up all s stands (c.requires.ruled settings s stands) (DeliverLine c.args.partition c.args.from c.args.to c.args.place) c.args.partition (MasterDeliver c.args.from c.args.to c.args.place) (record { after = λ k. refl; text = λ k next. refl })
+    asked_up all s stands (c.requires.ruled settings s stands) (DeliverLine c.args.partition c.args.from c.args.to c.args.place) c.args.partition (MasterDeliver c.args.from c.args.to c.args.place) (record { after = λ k. refl; tells = λ k next. refl })
     (c.in_err-took.ensures.full settings (counted s) amid (ap Err why))
 
 pub returns-clause-ok : goal.returns-clause-ok
@@ -37,7 +38,7 @@ returns-clause-ok g c = λ settings s stands.
     let may = c.requires.may in
     let placed = may.read.0 in
     let amid = counted_amid all s stands c.count.new.self c.count.ensures.masters (c.count.ensures.amid settings s.run stands.grid) in
-    asked_ran all s stands (c.requires.ruled settings s stands) line c.args.partition (MasterDeliver c.args.from c.args.to c.args.place) (record { after = λ k. refl; text = λ k next. refl })
-    (few_lines all c.args.number line may s stands) (omega (arith, placed)) c.hand_over.new.self (outcome_of c.in_ok-took.took) c.new-text.result.items c.hand_over.new.out.items (c.in_ok-took.ensures.ok settings (counted s) amid)
-    c.args.number c.args.out.now.items c.push_took.new.out.items c.push_text.new.out.items (next_number all c.args.number line may s stands) c.new-text.ensures.items c.in_ok-push_took.ensures
-    (c.in_ok-push_text.ensures ∙ ap (λ xs. c.push_took.new.out.items ++ xs) c.as_slice.ensures.value)
+    asked_ran all s stands (c.requires.ruled settings s stands) line c.args.partition (MasterDeliver c.args.from c.args.to c.args.place) (record { after = λ k. refl; tells = λ k next. refl })
+    (few_lines all c.args.number line may s stands) (omega (arith, placed)) c.hand_over.new.self (outcome_of c.in_ok-took.took) c.new-followed.result.items c.hand_over.new.out.items (c.in_ok-took.ensures.ok settings (counted s) amid)
+    c.args.out.now.items c.tell_with.new.out.items c.new-followed.ensures.items
+    (c.in_ok-tell_with.ensures ∙ ap (λ x. c.args.out.now.items ++ came_to x ++ c.hand_over.new.out.items) c.of_message.ensures)

@@ -1,10 +1,10 @@
-use Rattle.std.proofs.Common.{◌∙◌, ◌++◌, Err, ap, arith}
+use Rattle.std.proofs.Common.{Err, ap, arith}
 use Rattle.script_lang.specs.declared.line.Line.TheVariants.{Flow}
 use Rattle.replay_run.specs.declared.run_end.RunEnd.TheVariants.{InFlight}
 use Rattle.replay_run.proofs.Asking.{handed_on}
 use Rattle.masters_run.specs.Runs.{counted}
 use Rattle.masters_run.proofs.FlowParts.{may_flow, flow_ran, flow_up}
-use Rattle.masters_run.proofs.LineParts.{next_number, few_lines, counted_amid}
+use Rattle.masters_run.proofs.LineParts.{few_lines, counted_amid}
 use Rattle.masters_run.proofs.grid.RuledGrid.run_flow.Goals as goal
 
 pub deliver_to_members-requires-clause-may : goal.deliver_to_members-requires-clause-may
@@ -31,6 +31,5 @@ returns-clause-ok g c = λ settings s stands.
     let mid = c.count.new.self in
     let amid = counted_amid all s stands mid c.count.ensures.masters (c.count.ensures.amid settings s.run stands.grid) in
     flow_ran all s stands (c.requires.ruled settings s stands) mid amid (few_lines all c.args.number line may s stands) c.args.partition c.args.most may.read.2 c.deliver_to_members.new.self c.in_ok-deliveries.deliveries
-    c.new-text.result.items c.deliver_to_members.new.out.items (c.in_ok-deliveries.ensures.ok settings (counted s) amid)
-    c.args.number c.args.out.now.items c.push_flow.new.out.items c.push_text.new.out.items (next_number all c.args.number line may s stands) c.new-text.ensures.items c.in_ok-push_flow.ensures
-    (c.in_ok-push_text.ensures ∙ ap (λ xs. c.push_flow.new.out.items ++ xs) c.as_slice.ensures.value)
+    c.new-messages.result.items c.deliver_to_members.new.out.items (c.in_ok-deliveries.ensures.ok settings (counted s) amid)
+    c.args.out.now.items c.tell_with.new.out.items c.new-messages.ensures.items c.in_ok-tell_with.ensures

@@ -1,4 +1,4 @@
-use Rattle.std.proofs.Common.{◌≡◌, ◌∙◌, ◌++◌, Err, ap, arith}
+use Rattle.std.proofs.Common.{◌≡◌, Err, ap, arith}
 use Rattle.script_lang.specs.declared.line.Line.TheVariants.{FlowAll}
 use Rattle.replay_run.specs.Runs.{partitions}
 use Rattle.replay_run.specs.declared.run_end.RunEnd.TheVariants.{InFlight}
@@ -6,14 +6,14 @@ use Rattle.replay_run.proofs.Asking.{handed_on}
 use Rattle.masters_run.specs.Runs.{counted}
 use Rattle.masters_run.proofs.Delivering.{none_in, flowed_by_then, flowed_in_more, gives_up_in}
 use Rattle.masters_run.proofs.FlowParts.{may_flow_more, flowed_at, all_ran, all_up}
-use Rattle.masters_run.proofs.LineParts.{next_number, few_lines, counted_amid}
+use Rattle.masters_run.proofs.LineParts.{few_lines, counted_amid}
 use Rattle.masters_run.proofs.grid.RuledGrid.run_flow_all.Goals as goal
 
 pub loop-partition-init : goal.loop-partition-init
 loop-partition-init g c = record {
   below = omega arith;
   flowed = λ settings s stands.
-      none_in c.count.new.self (counted s) c.args.most c.new-text.result.items (counted_amid c.args.self.now s stands c.count.new.self c.count.ensures.masters (c.count.ensures.amid settings s.run stands.grid));
+      none_in c.count.new.self (counted s) c.args.most c.new-messages.result.items (counted_amid c.args.self.now s stands c.count.new.self c.count.ensures.masters (c.count.ensures.amid settings s.run stands.grid));
 }
 
 pub deliver_to_members-requires-clause-may : goal.deliver_to_members-requires-clause-may
@@ -23,7 +23,7 @@ deliver_to_members-requires-clause-may g c =
     let may = c.requires.may in
     let did = c.loop-partition.invariant.flowed may.settings may.run may.stands in
     may_flow_more all may.run may.stands (few_lines all c.args.number line may may.run may.stands) (c.requires.ruled may.settings may.run may.stands) c.loop-partition.self c.args.most c.loop-partition.partition c.loop-partition.deliveries
-    c.new-text.result.items c.loop-partition.text.items did (omega (arith, c.loop-partition-test.true)) may.read.1
+    c.new-messages.result.items c.loop-partition.messages.items did (omega (arith, c.loop-partition-test.true)) may.read.1
 
 pub returns-in_err-deliveries-clause-full : goal.returns-in_err-deliveries-clause-full
 returns-in_err-deliveries-clause-full g c = λ settings s stands was.
@@ -31,8 +31,8 @@ returns-in_err-deliveries-clause-full g c = λ settings s stands was.
     let most = c.args.most in
     let mid = c.loop-partition.self in
     let n = c.loop-partition.partition in
-    let first = c.new-text.result.items in
-    let so_far = c.loop-partition.text.items in
+    let first = c.new-messages.result.items in
+    let so_far = c.loop-partition.messages.items in
     let did = c.loop-partition.invariant.flowed settings s stands in
     let why = handed_on c.from_residual.result c.in_err-deliveries.field-0.0 InFlight c.from_residual.ensures.1 was in
     all_up all s stands (c.requires.ruled settings s stands) most
@@ -46,8 +46,8 @@ loop-partition-preserved g c = record {
       (let mid = c.loop-partition.self in
       let new = c.deliver_to_members.new.self in
       let n = c.loop-partition.partition in
-      let first = c.new-text.result.items in
-      let so_far = c.loop-partition.text.items in
+      let first = c.new-messages.result.items in
+      let so_far = c.loop-partition.messages.items in
       let did = c.loop-partition.invariant.flowed settings s stands in
       flowed_in_more settings (counted s) c.args.most mid new n c.loop-partition.deliveries first so_far did c.in_ok-deliveries.field-0 c.deliver_to_members.new.out.items
       (c.in_ok-deliveries.ensures.ok settings (flowed_by_then settings (counted s) c.args.most mid new n c.loop-partition.deliveries first so_far did) did.on.amid));
@@ -61,7 +61,6 @@ returns-clause-ok g c = λ settings s stands.
     let amid = counted_amid all s stands c.count.new.self c.count.ensures.masters (c.count.ensures.amid settings s.run stands.grid) in
     let ended : c.loop-partition.partition ≡ partitions = omega (arith, c.loop-partition-test.false, c.loop-partition.auto.partition-end) in
     all_ran all s stands (c.requires.ruled settings s stands) c.count.new.self amid (few_lines all c.args.number line may s stands) c.args.most may.read.1 c.loop-partition.self c.loop-partition.deliveries
-    c.new-text.result.items c.loop-partition.text.items
-    (flowed_at (counted s) c.loop-partition.self c.args.most c.loop-partition.partition partitions c.loop-partition.deliveries c.new-text.result.items c.loop-partition.text.items ended (c.loop-partition.invariant.flowed settings s stands))
-    c.args.number c.args.out.now.items c.push_flow.new.out.items c.push_text.new.out.items (next_number all c.args.number line may s stands) c.new-text.ensures.items c.in_ok-push_flow.ensures
-    (c.in_ok-push_text.ensures ∙ ap (λ xs. c.push_flow.new.out.items ++ xs) c.as_slice.ensures.value)
+    c.new-messages.result.items c.loop-partition.messages.items
+    (flowed_at (counted s) c.loop-partition.self c.args.most c.loop-partition.partition partitions c.loop-partition.deliveries c.new-messages.result.items c.loop-partition.messages.items ended (c.loop-partition.invariant.flowed settings s stands))
+    c.args.out.now.items c.tell_with.new.out.items c.new-messages.ensures.items c.in_ok-tell_with.ensures

@@ -11,5 +11,5 @@ abbrev pub invariant-loop-partition : goal.invariant-loop-partition
 invariant-loop-partition g l = record {
   below : l.deliveries ≤ 1000 * l.partition;
   flowed : (settings : Settings) (s : RuledRun) → Stands (boxed (λ z. (goal.Processor-dyn g z).form z.1)) settings l.fn.self s
-      → HasFlowedIn (boxed (λ z. (goal.Processor-dyn g z).form z.1)) settings l.self (counted s) l.most l.partition l.deliveries l.initial.text.items l.text.items;
+      → HasFlowedIn (boxed (λ z. (goal.Processor-dyn g z).form z.1)) settings l.self (counted s) l.most l.partition l.deliveries l.initial.messages.items l.messages.items;
 }

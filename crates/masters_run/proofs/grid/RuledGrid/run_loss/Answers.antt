@@ -1,13 +1,15 @@
-use Rattle.std.proofs.Common.{[], length, refl, sym, append-nil, arith}
+use Rattle.std.proofs.Common.{[], ◌++◌, length, refl, ap, sym, ◌∙◌, append-nil, arith}
 use Rattle.std.specs.Vec.{with_item}
 use Rattle.call_engine.specs.Objects.{partition_object}
 use Rattle.master_log.specs.Outcomes.{done_if}
 use Rattle.masters_protocol.specs.Machine.{Lose}
 use Rattle.masters_world.specs.Machine.{MasterLose}
 use Rattle.script_lang.specs.declared.line.Line.TheVariants.{MasterLose as LoseLine}
+use Rattle.line_told.specs.Happenings.{master_told}
+use Rattle.replay_run.specs.LineTold.{came_to}
 use Rattle.masters_run.specs.Runs.{masters_at, ruled_at, counted}
 use Rattle.masters_run.proofs.AskedLines.{loss_publishes_nothing}
-use Rattle.masters_run.proofs.LineParts.{may_count, next_number, few_lines, counted_amid, may_ask}
+use Rattle.masters_run.proofs.LineParts.{may_count, few_lines, counted_amid, may_ask}
 use Rattle.masters_run.proofs.MastersAsked.{are_there, masters_read, have_asked}
 use Rattle.masters_run.proofs.OneAsked.{asked_ran}
 use Rattle.masters_run.proofs.PublishedEvents.{none_follows}
@@ -49,7 +51,7 @@ returns-clause-ok g c = λ settings s stands.
     let so = asked_so are l (Lose c.args.from c.args.to c.args.place) (done_if c.lose-done.result) refl (c.lose-done.ensures (events_of are) are.stands) in
     let h = have_asked _ settings mid (counted s) p l amid there kept next are c.from.result c.from.ensures c.index_mut.ensures.value new refl refl refl refl so.0 so.1 (length (masters_at s p).published) refl in
     let on = none_follows _ settings new (counted s) p l (length (masters_at s p).published) h (loss_publishes_nothing (ruled_at (partition_object settings) s p) c.args.from c.args.to c.args.place) [] in
-    asked_ran all s stands ruled line p l (record { after = λ k. refl; text = λ k next. refl })
+    asked_ran all s stands ruled line p l (record { after = λ k. refl; tells = λ k next. refl })
     limit (omega (arith, placed)) new (done_if c.lose-done.result) [] [] (record { on = on; outcome = so.2 })
-    c.args.number c.args.out.now.items c.push_done.new.out.items c.push_done.new.out.items (next_number all c.args.number line may s stands) refl c.in_ok-push_done.ensures
-    (sym (append-nil c.push_done.new.out.items))
+    c.args.out.now.items c.tell_outcome.new.out.items refl
+    (c.in_ok-tell_outcome.ensures ∙ ap (λ x. c.args.out.now.items ++ came_to x) c.done_outcome.ensures ∙ sym (append-nil (c.args.out.now.items ++ came_to (master_told (done_if c.lose-done.result)))))

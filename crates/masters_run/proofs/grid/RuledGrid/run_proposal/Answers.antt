@@ -3,12 +3,13 @@ use Rattle.masters_world.specs.Machine.{Asks}
 use Rattle.replay_run.specs.Runs.{At}
 use Rattle.replay_run.specs.Grids.{most_arriving}
 use Rattle.replay_run.specs.declared.run_end.RunEnd.TheVariants.{InFlight}
+use Rattle.replay_run.specs.LineTold.{came_to}
 use Rattle.replay_run.proofs.Asking.{handed_on}
 use Rattle.replay_run.proofs.EventLines.{of_event}
 use Rattle.masters_run.specs.Answers.{answer_of}
 use Rattle.masters_run.specs.Runs.{counted}
 use Rattle.masters_run.proofs.AtOnce.{as_event}
-use Rattle.masters_run.proofs.LineParts.{may_count, next_number, few_lines, counted_amid, may_ask}
+use Rattle.masters_run.proofs.LineParts.{may_count, few_lines, counted_amid, may_ask}
 use Rattle.masters_run.proofs.OneAsked.{event_asked, asked_ran, asked_up}
 use Rattle.masters_run.proofs.grid.RuledGrid.run_proposal.Goals as goal
 
@@ -31,7 +32,7 @@ propose-requires g c =
     }
 
 pub returns-in_err-proposal-clause-full : goal.returns-in_err-proposal-clause-full
-returns-in_err-proposal-clause-full g c = λ settings s line stands proposes was.
+returns-in_err-proposal-clause-full g c = λ line proposes settings s stands was.
     let all = c.args.self.now in
     let by = proposes settings s stands in
     let e : At = record { partition = c.args.partition; event = by.0 } in
@@ -41,7 +42,7 @@ returns-in_err-proposal-clause-full g c = λ settings s line stands proposes was
     (c.in_err-proposal.ensures.full settings (counted s) by.0 amid by.2 (ap Err why))
 
 pub returns-clause-ok : goal.returns-clause-ok
-returns-clause-ok g c = λ settings s line stands proposes.
+returns-clause-ok g c = λ line proposes settings s stands.
     let all = c.args.self.now in
     let by = proposes settings s stands in
     let e : At = record { partition = c.args.partition; event = by.0 } in
@@ -51,6 +52,6 @@ returns-clause-ok g c = λ settings s line stands proposes.
     let placed = (of_event may.settings may.run.run old_line (record { partition = c.args.partition; event = old_by.0 }) old_by.1).within may.run.run.members most_arriving may.read in
     let amid = counted_amid all s stands c.count.new.self c.count.ensures.masters (c.count.ensures.amid settings s.run stands.grid) in
     asked_ran all s stands (c.requires.ruled settings s stands) line c.args.partition (Asks by.0) (event_asked settings s line e (as_event settings s line e by.1))
-    (few_lines all c.args.number old_line may s stands) placed c.propose.new.self (answer_of c.in_ok-proposal.proposal) c.new-text.result.items c.propose.new.out.items (c.in_ok-proposal.ensures.ok settings (counted s) by.0 amid by.2)
-    c.args.number c.args.out.now.items c.push_proposal.new.out.items c.push_text.new.out.items (next_number all c.args.number old_line may s stands) c.new-text.ensures.items c.in_ok-push_proposal.ensures
-    (c.in_ok-push_text.ensures ∙ ap (λ xs. c.push_proposal.new.out.items ++ xs) c.as_slice.ensures.value)
+    (few_lines all c.args.number old_line may s stands) placed c.propose.new.self (answer_of c.in_ok-proposal.proposal) c.new-followed.result.items c.propose.new.out.items (c.in_ok-proposal.ensures.ok settings (counted s) by.0 amid by.2)
+    c.args.out.now.items c.tell_with.new.out.items c.new-followed.ensures.items
+    (c.in_ok-tell_with.ensures ∙ ap (λ x. c.args.out.now.items ++ came_to x ++ c.propose.new.out.items) c.proposal_outcome.ensures)

@@ -13,7 +13,7 @@ use Rattle.masters_run.proofs.grid.RuledGrid.run_told.Given as goal
 abbrev pub invariant-loop-partition : goal.invariant-loop-partition
 invariant-loop-partition g l = record {
   on : (settings : Settings) (s : RuledRun) → Stands (boxed (λ z. (goal.Processor-dyn g z).form z.1)) settings l.fn.self s
-      → HasGoneIn (boxed (λ z. (goal.Processor-dyn g z).form z.1)) settings l.self (counted s) (Told l.member l.crashed) l.partition l.initial.text.items l.text.items;
+      → HasGoneIn (boxed (λ z. (goal.Processor-dyn g z).form z.1)) settings l.self (counted s) (Told l.member l.crashed) l.partition l.initial.followed.items l.followed.items;
   first : (settings : Settings) (s : RuledRun) → Stands (boxed (λ z. (goal.Processor-dyn g z).form z.1)) settings l.fn.self s → 0 < l.partition
       → masters_say (masters_at s 0) (asked_by (ruled_at (partition_object settings) s 0) (Told l.member l.crashed)) ≡ done_if l.done ∷ [];
 }
