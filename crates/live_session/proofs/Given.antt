@@ -1,7 +1,7 @@
 -- How the starts of calls stay given as the clock gives more.
 use Rattle.std.proofs.Common.{◌≡◌, ℕ, List, [], ◌∷◌, ◌++◌, Option, Some, None, ⊎_elim, ap, ◌∙◌, sym, subst, append_assoc, append-nil}
 use Rattle.session_calls.specs.Learning.{Begins}
-use Rattle.live_session.specs.declared.connection.Asked.{Asked}
+use Rattle.live_session.specs.declared.step.CallStep.{CallStep}
 use Rattle.live_session.specs.Starts.{Start, with_start, AreGiven, AsksClock}
 
 -- the clock gave more
@@ -17,13 +17,13 @@ given_since starts given given_now more are = subst (AreGiven starts) (sym more.
 pub gives_more : (first given given_now : List ℕ) → Begins first given → Begins given given_now → Begins first given_now
 gives_more first given given_now one two = (one.0 ++ two.0, two.1 ∙ ap (λ (l : List ℕ). l ++ two.0) one.1 ∙ append_assoc first one.0 two.0)
 
-module _ {T P E O : Type 0} (is : Option (Asked T P E O)) (given given_now : List ℕ) where
+module _ (step : CallStep) (given given_now : List ℕ) where
   -- a turn's clock gave no less than before
-  pub asks_more : (started : Option Start) → AsksClock started is given given_now → Begins given given_now
+  pub asks_more : (started : Option Start) → AsksClock started step given given_now → Begins given given_now
   asks_more None asks = ⊎_elim (λ (same : given_now ≡ given). ([], same ∙ sym (append-nil given))) (λ (one : (moment : ℕ) × (given_now ≡ given ++ moment ∷ [])). (one.0 ∷ [], one.1)) asks
   asks_more (Some start) asks = (start.moment ∷ [], asks.1)
 
   -- with the start of the turn, if it started a call
-  pub given_with : (started : Option Start) (starts : List Start) → AsksClock started is given given_now → AreGiven starts given → AreGiven (with_start started starts) given_now
+  pub given_with : (started : Option Start) (starts : List Start) → AsksClock started step given given_now → AreGiven starts given → AreGiven (with_start started starts) given_now
   given_with None starts asks are = given_since starts given given_now (asks_more None asks) are
   given_with (Some start) starts asks are = (given, [], asks.1, are)

@@ -1,5 +1,5 @@
 -- What was noted of a connection stays in time, as more is noted, read and answered.
-use Rattle.std.proofs.Common.{◌≡◌, ℕ, ◌≤◌, ⊎_elim, List, [], ◌∷◌, ◌++◌, length, All, Option, Some, None, refl, sym, ap, ◌∙◌, subst, append-nil, arith}
+use Rattle.std.proofs.Common.{◌≡◌, ℕ, ◌+◌, ◌≤◌, ⊎_elim, List, [], ◌∷◌, ◌++◌, length, All, Option, Some, None, refl, sym, ap, ◌∙◌, subst, append-nil, arith}
 use Rattle.std.specs.List.{concat, sum_by}
 use Rattle.std.proofs.lemmas.List.{length-append, take-append-le, take_all}
 use Rattle.std.proofs.lemmas.List.Elements.{All-cons, All-head, All-nil, All-tail}
@@ -11,7 +11,8 @@ use Rattle.loop_journal.specs.Journals.{call_in, conn_of, read_by, written_by, b
 use Rattle.loop_journal.proofs.Owning.{own_all, read_both, written_both}
 use Rattle.live_session.specs.Starts.{Log, after_turn}
 use Rattle.live_session.specs.Times.{IsNotedWhole, HasCome, HasComeWithin, IsUnansweredWithin, IsInTime}
-use Rattle.live_session.specs.Turns.{HasNotedCalls, HasNoted}
+use Rattle.live_session.specs.Turns.{HasNoted}
+use Rattle.live_session.specs.declared.step.CallStep.TheVariants.{Nothing, Begun, Ended, Made}
 use Rattle.live_session.proofs.Calls.{first_same, rest_same, InFirst, InSecond, in_one}
 
 -- One entry alone
@@ -172,13 +173,13 @@ has_come conn member number entries read written noted come = record {
   come = subst (λ (text : List ℕ). HasCome conn member text number) (sym (take_all (bytes_read conn entries) read (omega (arith, noted.all_read)))) come;
 }
 
--- where all replies are written, none of the next one is
-pub is_unanswered : (conn number : ℕ) (entries : List Entry) (read written : List ℕ) (replies : List (List ℕ)) → IsNotedWhole conn entries read written → written ≡ concat replies → number ≡ length replies
+-- of a call that has no reply no byte of one is written
+pub is_unanswered : (conn number : ℕ) (entries : List Entry) (read written left : List ℕ) (replies : List (List ℕ)) → IsNotedWhole conn entries read written → written ++ left ≡ concat replies → number ≡ length replies
     → IsUnansweredWithin replies (bytes_written conn entries) number
-is_unanswered conn number entries read written replies noted all next = record {
+is_unanswered conn number entries read written left replies noted all next = record {
   those_before = omega (arith, next);
   none_of_it = subst (λ (l : List (List ℕ)). bytes_written conn entries ≤ length (concat l)) (sym (take_all number replies (omega (arith, next))))
-      (omega (arith, noted.all_written, ap (λ (l : List ℕ). length l) all));
+      (let whole : length written + length left ≡ length (concat replies) = sym (length-append written left) ∙ ap (λ (l : List ℕ). length l) all in omega (arith, noted.all_written, whole));
 }
 
 -- What a turn notes
@@ -190,10 +191,6 @@ with_entries log entries = record log { entries = entries }
 pub same_log : (log : Log) → after_turn log None [] ≡ log
 same_log log = ap (λ (entries : List Entry). with_entries log entries) (append-nil log.entries)
 
-same_calls : (was : Option NotedCall) (entries : List Entry) → All (λ (entry : Entry). call_in entry ≡ None) entries → HasNotedCalls was was entries
-same_calls None entries none = none
-same_calls (Some call) entries none = none
-
 read_of_own : (conn : ℕ) (entry : Entry) → conn_of entry ≡ conn → bytes_read conn (entry ∷ []) ≡ read_by entry
 read_of_own conn entry own = ap (λ (es : List Entry). sum_by read_by es) (own_all conn (entry ∷ []) (one_of (λ (e : Entry). conn_of e ≡ conn) entry own)) ∙ omega (arith, sum_by-cons read_by entry [])
 
@@ -204,29 +201,34 @@ written_of_own conn entry own = ap (λ (es : List Entry). sum_by written_by es) 
 whole_one : (conn : ℕ) (entry : Entry) (piece front : List ℕ) → conn_of entry ≡ conn → length piece ≡ read_by entry → length front ≡ written_by entry → IsNotedWhole conn (entry ∷ []) piece front
 whole_one conn entry piece front own many much = record { all_read = read_of_own conn entry own ∙ sym many; all_written = written_of_own conn entry own ∙ sym much }
 
-pub noted_nothing : (conn : ℕ) (was : Option NotedCall) → HasNoted conn was was (record { read = []; written = [] }) []
-noted_nothing conn was = record { own = All-nil (λ (e : Entry). conn_of e ≡ conn); whole = nothing_noted conn; calls = same_calls was [] (All-nil (λ (e : Entry). call_in e ≡ None)) }
+-- nothing was noted
+pub noted_nothing : (conn : ℕ) → HasNoted conn Nothing (record { read = []; written = [] }) []
+noted_nothing conn = record { own = All-nil (λ (e : Entry). conn_of e ≡ conn); whole = nothing_noted conn; calls = All-nil (λ (e : Entry). call_in e ≡ None) }
 
--- a call that was under way is so still
-pub noted_waits : (conn : ℕ) (was is : NotedCall) → HasNoted conn (Some was) (Some is) (record { read = []; written = [] }) []
-noted_waits conn was is = record { own = All-nil (λ (e : Entry). conn_of e ≡ conn); whole = nothing_noted conn; calls = All-nil (λ (e : Entry). call_in e ≡ None) }
-
-pub noted_read : (conn count : ℕ) (was : Option NotedCall) (piece : List ℕ) → length piece ≡ count → HasNoted conn was was (record { read = piece; written = [] }) (Read conn count ∷ [])
-noted_read conn count was piece many = record {
+pub noted_read : (conn count : ℕ) (piece : List ℕ) → length piece ≡ count → HasNoted conn Nothing (record { read = piece; written = [] }) (Read conn count ∷ [])
+noted_read conn count piece many = record {
   own = one_of (λ (e : Entry). conn_of e ≡ conn) (Read conn count) refl;
   whole = whole_one conn (Read conn count) piece [] refl many refl;
-  calls = same_calls was (Read conn count ∷ []) (one_of (λ (e : Entry). call_in e ≡ None) (Read conn count) refl);
+  calls = one_of (λ (e : Entry). call_in e ≡ None) (Read conn count) refl;
 }
 
-pub noted_written : (conn count : ℕ) (was : Option NotedCall) (front : List ℕ) → length front ≡ count → HasNoted conn was was (record { read = []; written = front }) (Written conn count ∷ [])
-noted_written conn count was front many = record {
+pub noted_written : (conn count : ℕ) (front : List ℕ) → length front ≡ count → HasNoted conn Nothing (record { read = []; written = front }) (Written conn count ∷ [])
+noted_written conn count front many = record {
   own = one_of (λ (e : Entry). conn_of e ≡ conn) (Written conn count) refl;
   whole = whole_one conn (Written conn count) [] front refl refl many;
-  calls = same_calls was (Written conn count ∷ []) (one_of (λ (e : Entry). call_in e ≡ None) (Written conn count) refl);
+  calls = one_of (λ (e : Entry). call_in e ≡ None) (Written conn count) refl;
 }
 
-pub noted_started : (conn : ℕ) (call : NotedCall) → call.id.conn ≡ conn → HasNoted conn None (Some call) (record { read = []; written = [] }) (Started call ∷ [])
-noted_started conn call own = record { own = one_of (λ (e : Entry). conn_of e ≡ conn) (Started call) own; whole = whole_one conn (Started call) [] [] own refl refl; calls = refl }
+pub noted_begun : (conn : ℕ) (call : NotedCall) → call.id.conn ≡ conn → HasNoted conn (Begun call) (record { read = []; written = [] }) (Started call ∷ [])
+noted_begun conn call own = record { own = one_of (λ (e : Entry). conn_of e ≡ conn) (Started call) own; whole = whole_one conn (Started call) [] [] own refl refl; calls = refl }
 
-pub noted_finished : (conn : ℕ) (call : NotedCall) → call.id.conn ≡ conn → HasNoted conn (Some call) None (record { read = []; written = [] }) (Finished call ∷ [])
-noted_finished conn call own = record { own = one_of (λ (e : Entry). conn_of e ≡ conn) (Finished call) own; whole = whole_one conn (Finished call) [] [] own refl refl; calls = refl }
+pub noted_ended : (conn : ℕ) (call : NotedCall) → call.id.conn ≡ conn → HasNoted conn (Ended call) (record { read = []; written = [] }) (Finished call ∷ [])
+noted_ended conn call own = record { own = one_of (λ (e : Entry). conn_of e ≡ conn) (Finished call) own; whole = whole_one conn (Finished call) [] [] own refl refl; calls = refl }
+
+-- a call was started and came to its outcome
+pub noted_made : (conn : ℕ) (call : NotedCall) → call.id.conn ≡ conn → HasNoted conn (Made call) (record { read = []; written = [] }) (Started call ∷ Finished call ∷ [])
+noted_made conn call own = record {
+  own = All-cons (λ (e : Entry). conn_of e ≡ conn) (Started call) (Finished call ∷ []) own (one_of (λ (e : Entry). conn_of e ≡ conn) (Finished call) own);
+  whole = noted_both conn (Started call ∷ []) (Finished call ∷ []) [] [] [] [] (whole_one conn (Started call) [] [] own refl refl) (whole_one conn (Finished call) [] [] own refl refl);
+  calls = refl;
+}

@@ -1,5 +1,5 @@
 -- A turn of a connection among those of one loop.
-use Rattle.std.specs.Prelude.{◌≡◌, ℕ, List, Option, Some, None, slice_get, slice_set}
+use Rattle.std.specs.Prelude.{◌≡◌, ℕ, ◌<◌, List, length, Some, slice_get, slice_set}
 use Rattle.grid_base.specs.declared.names.CallId.{CallId}
 use Rattle.grid_base.specs.declared.calls.Request.{Request}
 use Rattle.hand_cell.specs.declared.names.Key.{Key}
@@ -10,12 +10,13 @@ use Rattle.loop_journal.specs.declared.entry.NotedCall.{NotedCall}
 use Rattle.partition_threads.specs.declared.workplace.Workplace.{Workplace}
 use Rattle.session_calls.specs.Learning.{Begins, HasTaughtAt}
 use Rattle.session_calls.specs.Sessions.{IsSessionOf, pass_at}
-use Rattle.live_session.specs.declared.connection.Asked.{Asked}
 use Rattle.live_session.specs.declared.connection.Connection.{Connection}
+use Rattle.live_session.specs.declared.step.CallStep.{CallStep}
+use Rattle.live_session.specs.declared.step.CallStep.TheVariants.{Nothing, Begun, Ended, Made}
 use Rattle.live_session.specs.declared.turned.Turned.{Turned}
 use Rattle.live_session.specs.Connections.{StandsAt, IsServedTo}
-use Rattle.live_session.specs.Next.{IsNext, noted_of}
-use Rattle.live_session.specs.Turns.{Streams, HasTurned}
+use Rattle.live_session.specs.Next.{IsNext}
+use Rattle.live_session.specs.Turns.{Streams, Before, HasTurned}
 use Rattle.live_session.specs.Starts.{Log}
 
 -- The pass of the partition among these has seen more than it had, and all of this; the others are as before
@@ -32,31 +33,42 @@ pub record KnowsMore {E : Type 0} (key_of : E → Key) (partition : ℕ) (seen :
 abbrev pub StandsBehind : {E : Type 0} → List (Told E) → ℕ → List E → Type 0
 StandsBehind known partition seen = (pass : Told _) → slice_get known partition ≡ Some pass → Begins pass.seen seen
 
--- What a turn did to passes that have seen this: a call was started behind it, or they have seen what was seen as one was finished
-abbrev pub KeepsKnown : {E : Type 0} → (E → Key) → (was is : Option NotedCall) → (sees : ℕ → List E) → (known now : List (Told E)) → Type 0
-KeepsKnown key_of None None sees known now = now ≡ known
-KeepsKnown key_of None (Some call) sees known now = (now ≡ known) × StandsBehind known call.partition (sees call.partition)
-KeepsKnown key_of (Some call) None sees known now = KnowsMore key_of call.partition (sees call.partition) known now
-KeepsKnown key_of (Some call) (Some still) sees known now = (now ≡ known) × (still ≡ call)
+-- The event of a call that is seen anew stands behind what the pass of its partition among these has seen
+pub record IsMadeBehind {E : Type 0} (key_of : E → Key) (call : NotedCall) (seen sees : List E) (known : List (Told E)) : Type 0 where
+  pub begins : StandsBehind known call.partition sees
+  pub behind : (pass : Told E) → slice_get known call.partition ≡ Some pass → (at : ℕ) → StandsAt key_of call.id sees at → ¬ (at < length seen) → ¬ (at < length pass.seen)
+
+-- What a turn did to passes of a loop, where this was seen before it and that after it: a call was started behind what they have seen, or they have
+-- seen what was seen as one came to its outcome
+abbrev pub KeepsKnown : {E : Type 0} → (E → Key) → CallStep → (seen sees : ℕ → List E) → (known now : List (Told E)) → Type 0
+KeepsKnown key_of Nothing seen sees known now = now ≡ known
+KeepsKnown key_of (Begun call) seen sees known now = (now ≡ known) × StandsBehind known call.partition (sees call.partition)
+KeepsKnown key_of (Ended call) seen sees known now = KnowsMore key_of call.partition (sees call.partition) known now
+KeepsKnown key_of (Made call) seen sees known now =
+    IsMadeBehind key_of call (seen call.partition) (sees call.partition) known × KnowsMore key_of call.partition (sees call.partition) known now
 
 module _ {T P E O : Type 0} where
-  -- a call that was under way is so no more: the session has the pass of its partition
-  abbrev pub MaySettleAt : Workplace T P E O → Connection T P E O → NotedCall → Option (Asked T P E O) → Type 0
-  MaySettleAt place connection call None = IsSessionOf place connection.pass × ((pass : Told E) × (pass_at connection.pass call.partition ≡ Some (Some pass)))
-  MaySettleAt place connection call (Some asked) = Unit {0}
+  -- a call that came to its outcome has its pass back
+  pub record MaySettleAt (place : Workplace T P E O) (connection : Connection T P E O) (call : NotedCall) : Type 0 where
+    pub session : IsSessionOf place connection.pass
+    pub pass : Told E
+    pub there : pass_at connection.pass call.partition ≡ Some (Some pass)
 
-  abbrev pub MaySettle : Workplace T P E O → Option NotedCall → Connection T P E O → Type 0
-  MaySettle place None connection = Unit {0}
-  MaySettle place (Some call) connection = MaySettleAt place connection call connection.asked
+  abbrev pub MaySettle : Workplace T P E O → CallStep → Connection T P E O → Type 0
+  MaySettle place (Ended call) connection = MaySettleAt place connection call
+  MaySettle place (Made call) connection = MaySettleAt place connection call
+  MaySettle place step connection = Unit {0}
 
-  -- nothing has changed, but for the passes that a session taught whose call is under way no more
-  abbrev pub HasSettledAt : (E → Key) → Workplace T P E O → NotedCall → Option (Asked T P E O) → (old new : Connection T P E O) → (known now : List (Told E)) → Type 0
-  HasSettledAt key_of place call None old new known now = HasTaughtAt key_of old.pass new.pass call.partition known now × IsSessionOf place new.pass
-  HasSettledAt key_of place call (Some asked) old new known now = (new.pass ≡ old.pass) × (now ≡ known)
+  -- These passes were taught what the session has seen of the call's partition
+  pub record HasSettledAt (key_of : E → Key) (place : Workplace T P E O) (call : NotedCall) (old new : Connection T P E O) (known now : List (Told E)) : Type 0 where
+    pub taught : HasTaughtAt key_of old.pass new.pass call.partition known now
+    pub session : IsSessionOf place new.pass
 
-  abbrev pub HasSettled : (E → Key) → Workplace T P E O → Option NotedCall → (old new : Connection T P E O) → (known now : List (Told E)) → Type 0
-  HasSettled key_of place None old new known now = (new.pass ≡ old.pass) × (now ≡ known)
-  HasSettled key_of place (Some call) old new known now = HasSettledAt key_of place call old.asked old new known now
+  -- nothing has changed, but for the passes that were taught where a call came to its outcome
+  abbrev pub HasSettled : (E → Key) → Workplace T P E O → CallStep → (old new : Connection T P E O) → (known now : List (Told E)) → Type 0
+  HasSettled key_of place (Ended call) old new known now = HasSettledAt key_of place call old new known now
+  HasSettled key_of place (Made call) old new known now = HasSettledAt key_of place call old new known now
+  HasSettled key_of place step old new known now = (new.pass ≡ old.pass) × (now ≡ known)
 
 module _ {T P E O : Type 0} (key_of : E → Key) (tells : P → List E → E → LiveOutcome → Type 0) (call_of : ℕ → Request → ℕ → E) (place : Workplace T P E O) where
   -- The connection is served as before by more that it has seen, none of which is a call of its own; a call that comes next stands behind what these
@@ -66,10 +78,10 @@ module _ {T P E O : Type 0} (key_of : E → Key) (tells : P → List E → E →
     pub more : (partition : ℕ) → Begins (seen partition) (sees partition)
     pub own : (id : CallId) (partition at : ℕ) → id.conn ≡ old.pass.conn → StandsAt key_of id (sees partition) at → StandsAt key_of id (seen partition) at
     pub served : IsServedTo key_of tells call_of log place new sees read written
-    pub behind : old.asked ≡ None → (partition : ℕ) → IsNext old partition → StandsBehind known partition (sees partition)
+    pub behind : (partition : ℕ) → IsNext old partition → StandsBehind known partition (sees partition)
 
   -- A turn among connections of one loop: what it came to, and what it did to the loop's passes
-  pub record HasTurnedAmong (given given_now : List ℕ) (journal journal_now : List Entry) (was : Option (Asked T P E O)) (new : Connection T P E O) (before after : Streams) (seen : ℕ → List E)
-      (log : Log) (read written : List ℕ) (turned : Turned) (known known_now : List (Told E)) : Type 0 where
-    pub turn : HasTurned key_of tells call_of place given given_now journal journal_now was new before after seen log read written turned
-    pub keeps : KeepsKnown key_of (noted_of was) (noted_of new.asked) turn.sees known known_now
+  pub record HasTurnedAmong (given given_now : List ℕ) (journal journal_now : List Entry) (was : Before T P E O) (new : Connection T P E O) (before after : Streams) (seen : ℕ → List E)
+      (log : Log) (read written : List ℕ) (turned : Turned) (step : CallStep) (known known_now : List (Told E)) : Type 0 where
+    pub turn : HasTurned key_of tells call_of place given given_now journal journal_now was new before after seen log read written turned step
+    pub keeps : KeepsKnown key_of step seen turn.sees known known_now

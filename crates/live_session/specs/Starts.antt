@@ -1,8 +1,9 @@
 -- What was done for a connection, and when its calls were started.
-use Rattle.std.specs.Prelude.{◌≡◌, ◌⊎◌, ℕ, List, [], ◌∷◌, ◌++◌, Option, Some, None, IsSomeAnd}
+use Rattle.std.specs.Prelude.{◌≡◌, ◌⊎◌, ℕ, List, [], ◌∷◌, ◌++◌, Option, Some, None}
 use Rattle.grid_base.specs.declared.calls.Request.{Request}
 use Rattle.loop_journal.specs.declared.entry.Entry.{Entry}
-use Rattle.live_session.specs.declared.connection.Asked.{Asked}
+use Rattle.live_session.specs.declared.step.CallStep.{CallStep}
+use Rattle.live_session.specs.Steps.{StartsOne}
 
 -- the start of a call: its number, and the moment that the clock gave for it
 pub record Start : Type 0 where
@@ -34,8 +35,7 @@ abbrev pub AreGiven : List Start → (given : List ℕ) → Type 0
 AreGiven [] given = Unit {0}
 AreGiven (start ∷ earlier) given = (before after : List ℕ) × (given ≡ before ++ start.moment ∷ after) × AreGiven earlier before
 
-module _ {T P E O : Type 0} where
-  -- What a turn asked the clock for: the moment of the call that it started, which is under way then; and else no more than one moment
-  abbrev pub AsksClock : Option Start → (is : Option (Asked T P E O)) → (given given_now : List ℕ) → Type 0
-  AsksClock None is given given_now = (given_now ≡ given) ⊎ ((moment : ℕ) × (given_now ≡ given ++ moment ∷ []))
-  AsksClock (Some start) is given given_now = IsSomeAnd is (λ asked. asked.started.id.number ≡ start.number) × (given_now ≡ given ++ start.moment ∷ [])
+-- What a turn asked the clock for: the moment of the call that it started; and else no more than one moment
+abbrev pub AsksClock : Option Start → CallStep → (given given_now : List ℕ) → Type 0
+AsksClock None step given given_now = (given_now ≡ given) ⊎ ((moment : ℕ) × (given_now ≡ given ++ moment ∷ []))
+AsksClock (Some start) step given given_now = StartsOne (λ call. call.id.number ≡ start.number) step × (given_now ≡ given ++ start.moment ∷ [])
