@@ -11,12 +11,15 @@ use crate::stage::Stage;
 use grid_edge::{Clock, DoorFault, Doors};
 use live_grid::{Environment, LiveWorld};
 use live_server::{Closed, Connections, serve};
+use partition_threads::Gate;
 use std::sync::Wait;
 
-/// Serves the clients that come through the doors. Answers its closing as it was seen.
-pub(crate) fn serve_hall<N: Environment, C: Clock, D: Doors, R: Wait>(
+/// Serves the clients that come through the doors, and makes their calls on this thread where that can be. Answers its closing as
+/// it was seen.
+pub(crate) fn serve_hall<N: Environment, C: Clock, D: Doors, G: Gate, R: Wait>(
     rt: &R,
     stage: &Stage<N, D::Waker>,
+    gate: &G,
     clock: &mut C,
     connections: &mut Connections<LiveWorld, D::From, D::To>,
     doors: &mut D,
@@ -28,5 +31,16 @@ pub(crate) fn serve_hall<N: Environment, C: Clock, D: Doors, R: Wait>(
         (at_doors (D.book doors.new) (D.empty_looks doors.new) (D.faults doors.new)) result }
 {
     let (alloc, place, closing) = (stage.alloc, stage.grid.workplace(), &stage.closing);
-    serve(rt, alloc, place, connections, doors, clock, closing)
+    let env = &stage.env;
+    serve(
+        rt,
+        alloc,
+        place,
+        env,
+        gate,
+        connections,
+        doors,
+        clock,
+        closing,
+    )
 }

@@ -26,10 +26,11 @@ use thread_crew::{join_told, with_crew};
 
 /// Serves clients on a thread of its own, and the operator on this one. Where no such thread can be made the operator isn't heard, and
 /// those clients alone are served that have come by then.
-fn serve_both<N, R, S, K, C, D>(
+fn serve_both<N, R, S, K, C, D, G>(
     rt: &R,
     stage: &Stage<N, D::Waker>,
     clock: &mut C,
+    gate: &G,
     connections: &mut Connections<LiveWorld, D::From, D::To>,
     doors: &mut D,
     pass: &mut GridPass,
@@ -43,6 +44,7 @@ where
     K: Sink,
     C: Clock + Send,
     D: Doors,
+    G: Gate,
     requires { MayMeet stage.now.options stage.now.grid (D.book doors.old) connections.old pass.old }
     ensures served { HasServedClients D.empty_looks stage.now.grid (C.given clock.new) connections.new
         (at_doors (D.book doors.old) (D.empty_looks doors.old) (D.faults doors.old))
@@ -54,7 +56,7 @@ where
 {
     let mut serving = || -> Result<Closed<D>, DoorFault>
         requires { ServesCalls RequestFits (place_of stage.now.grid) × MayServe live_key (place_of stage.now.grid) connections.now (D.book doors.now) }
-    { serve_hall(rt, stage, clock, connections, doors) };
+    { serve_hall(rt, stage, gate, clock, connections, doors) };
     let mut operating = |is_served: bool| -> Status
         requires { (1 ≤ stage.now.options.members) × (stage.now.options.members ≤ 8) × MayControl stage.now.grid pass.now }
     { operate(rt, stage, pass, script, out, is_served) };
@@ -63,10 +65,11 @@ where
 }
 
 /// Serves clients and the operator, if each worker runs.
-fn serve_if_whole<N, R, S, K, C, D>(
+fn serve_if_whole<N, R, S, K, C, D, G>(
     rt: &R,
     stage: &Stage<N, D::Waker>,
     clock: &mut C,
+    gate: &G,
     connections: &mut Connections<LiveWorld, D::From, D::To>,
     doors: &mut D,
     pass: &mut GridPass,
@@ -81,6 +84,7 @@ where
     K: Sink,
     C: Clock + Send,
     D: Doors,
+    G: Gate,
     requires { MayMeet stage.now.options stage.now.grid (D.book doors.old) connections.old pass.old }
     ensures { HasMet D.empty_looks stage.now.grid (C.given clock.new) stage.now.options.members connections.new
         (at_doors (D.book doors.old) (D.empty_looks doors.old) (D.faults doors.old))
@@ -92,14 +96,25 @@ where
     if !is_whole {
         return None;
     }
-    Some(serve_both(rt, stage, clock, connections, doors, pass, script, out))
+    Some(serve_both(
+        rt,
+        stage,
+        clock,
+        gate,
+        connections,
+        doors,
+        pass,
+        script,
+        out,
+    ))
 }
 
 /// Serves clients and the operator, if each worker runs, and then has the workers end.
-fn serve_front<N, R, S, K, C, D>(
+fn serve_front<N, R, S, K, C, D, G>(
     rt: &R,
     stage: &Stage<N, D::Waker>,
     clock: &mut C,
+    gate: &G,
     connections: &mut Connections<LiveWorld, D::From, D::To>,
     doors: &mut D,
     pass: &mut GridPass,
@@ -114,6 +129,7 @@ where
     K: Sink,
     C: Clock + Send,
     D: Doors,
+    G: Gate,
     requires { MayMeet stage.now.options stage.now.grid (D.book doors.old) connections.old pass.old }
     ensures { HasMet D.empty_looks stage.now.grid (C.given clock.new) stage.now.options.members connections.new
         (at_doors (D.book doors.old) (D.empty_looks doors.old) (D.faults doors.old))
@@ -126,6 +142,7 @@ where
         rt,
         stage,
         clock,
+        gate,
         connections,
         doors,
         pass,
@@ -177,6 +194,7 @@ where
             rt,
             stage,
             clock,
+            gate,
             connections,
             doors,
             pass,

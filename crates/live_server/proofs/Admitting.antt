@@ -1,5 +1,5 @@
 -- How a connection is let in.
-use Rattle.std.proofs.Common.{◌≡◌, ◌≢◌, ◌⊎◌, inl, inr, ⊎_elim, ℕ, ◌+◌, ◌<◌, ◌≤◌, true, List, [], ◌∷◌, ◌++◌, length, map, get_or, All, Option, Some, None, IfSome, slice_get, refl, sym, ap, ◌∙◌, subst, append-nil, arith}
+use Rattle.std.proofs.Common.{◌≡◌, ◌≢◌, ◌⊎◌, inl, inr, ⊎_elim, ℕ, ◌+◌, ◌<◌, ◌≤◌, true, false, List, [], ◌∷◌, ◌++◌, length, map, get_or, All, Option, Some, None, slice_get, refl, sym, ap, ◌∙◌, subst, append-nil, arith}
 use Rattle.std.proofs.lemmas.List.{length-append, length-map}
 use Rattle.std.proofs.lemmas.List.Elements.{All-push}
 use Rattle.grid_base.specs.declared.calls.Request.{Request}
@@ -22,7 +22,7 @@ use Rattle.session_core.specs.Items.{items_of}
 use Rattle.slab.specs.Slab.{Slab, get, Updates}
 use Rattle.live_session.specs.declared.connection.Asked.{Asked}
 use Rattle.live_session.specs.Connections.{HasSeen, AreBelow, IsFresh, IsServedTo}
-use Rattle.live_session.specs.Next.{noted_call}
+use Rattle.live_session.specs.Next.{noted_of}
 use Rattle.live_session.specs.Starts.{nothing_done}
 use Rattle.live_session.proofs.Beginning.{no_messages}
 use Rattle.live_session.proofs.Calls.{none_called}
@@ -34,7 +34,7 @@ use Rattle.live_server.specs.declared.connections.TheConstants.{ROOM}
 use Rattle.live_server.specs.Serving.{times_returned, SawNone, WasServed}
 use Rattle.live_server.specs.Clients.{IsServedSince}
 use Rattle.live_server.specs.Standing.{OfEach, IsUnserved, IsServedBy, IsServing}
-use Rattle.live_server.specs.Order.{Mark, IsMarked, KeepsMarks, AreMarks, seen_of}
+use Rattle.live_server.specs.Order.{Mark, StartIsMarked, KeepsMarks, AreMarks, seen_of}
 use Rattle.live_server.proofs.Keyed.{of_each, came_was_unserved, came_unserved, came_served, others_served}
 use Rattle.live_server.proofs.Marks.{keeps_none, marks_seen, rested_on}
 use Rattle.live_server.proofs.Named.{still_named, named_one}
@@ -105,6 +105,7 @@ module _ {T P E O F K : Type 0} (key_of : E → Key) (tells : P → List E → E
     served = served.served;
     marked = served.marked;
     under_way = served.under_way;
+    broken = served.broken;
   }
 
   more_arrivals : length (book.arrivals ++ arrival ∷ []) ≡ length book.arrivals + 1
@@ -132,10 +133,10 @@ module _ {T P E O F K : Type 0} (key_of : E → Key) (tells : P → List E → E
     }
 
     -- the client is served from now on
-    pub began : (client : Client T F K P E O) → client.number ≡ number → client.from ≡ from → client.to ≡ to → client.connection.pass ≡ session → client.connection.asked ≡ None
+    pub began : (client : Client T F K P E O) → client.number ≡ number → client.from ≡ from → client.to ≡ to → client.connection.pass ≡ session → client.connection.asked ≡ None → client.connection.broken ≡ false
         → IsServedTo key_of tells call_of nothing_done place client.connection (seen_by old.passes.items (λ q. [])) [] []
         → IsServedSince key_of tells call_of place given telling (book.arrivals ++ arrival ∷ []) serving.marks client
-    began client has_number its_from its_to its_pass idle served = record {
+    began client has_number its_from its_to its_pass idle unbroken served = record {
       arrival = arrival;
       came = subst (λ (n : ℕ). slice_get (book.arrivals ++ arrival ∷ []) n ≡ Some arrival) (sym (has_number ∙ number_is)) came_last;
       conn = ap (λ (s : SessionPass T P E O). s.conn) its_pass ∙ (opened.conn_is ∙ sym has_number);
@@ -155,7 +156,8 @@ module _ {T P E O F K : Type 0} (key_of : E → Key) (tells : P → List E → E
       served = served;
       marked = keeps_none key_of serving.marks client.number (seen_by old.passes.items (λ q. [])) (λ p. subst (λ (n : ℕ). AreBelow key_of n 0 (seen_by old.passes.items (λ q. []) p)) (sym (has_number ∙ number_is))
           (seen_case old.passes.items (λ q. []) (λ l. AreBelow key_of (length book.arrivals) 0 l) p (serving.unseen (length book.arrivals) (omega arith) p) tt));
-      under_way = subst (λ (a : Option (Asked T P E O)). IfSome a (λ asked. IsMarked serving.marks (noted_call asked) (length (seen_by old.passes.items (λ q. []) asked.started.partition)))) (sym idle) tt;
+      under_way = subst (λ (a : Option (Asked T P E O)). StartIsMarked serving.marks (seen_by old.passes.items (λ q. [])) (noted_of a)) (sym idle) tt;
+      broken = λ broken. let never : true ≡ false = sym broken ∙ unbroken in absurd cc;
     }
 
   -- A connection came, and is served

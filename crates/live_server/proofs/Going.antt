@@ -1,11 +1,12 @@
 -- How a client goes on by a turn.
-use Rattle.std.proofs.Common.{◌≡◌, ◌⊎◌, inl, inr, ⊎_elim, ℕ, ◌<◌, ◌≤◌, Bool, true, false, List, [], ◌++◌, length, Option, Some, IfSome, IsSome, slice_get, refl, sym, ap, ◌∙◌, subst, append_assoc, append-nil, arith}
+use Rattle.std.proofs.Common.{◌≡◌, ◌⊎◌, inl, inr, ℕ, ◌≤◌, Bool, true, false, List, [], ◌++◌, length, Option, Some, IsSome, slice_get, refl, sym, ap, ◌∙◌, subst, append_assoc, append-nil, arith}
 use Rattle.std.proofs.lemmas.List.{map-append}
 use Rattle.std.proofs.lemmas.List.Elements.{All-nil, All-append}
 use Rattle.grid_base.specs.declared.calls.Request.{Request}
 use Rattle.grid_edge.specs.Doors.{Arrival}
 use Rattle.grid_edge.specs.Faults.{Rose}
 use Rattle.grid_edge.specs.MemoryDoors.{Telling}
+use Rattle.grid_edge.proofs.FaultCounts.{Rose_since, Rose_until}
 use Rattle.grid_edge.proofs.Told.{more_taken}
 use Rattle.hand_cell.specs.declared.names.Key.{Key}
 use Rattle.hand_cell.specs.declared.outcome.LiveOutcome.{LiveOutcome}
@@ -19,6 +20,7 @@ use Rattle.partition_threads.specs.declared.workplace.Workplace.{Workplace}
 use Rattle.session_core.specs.Items.{items_of}
 use Rattle.session_core.specs.declared.item.Item.{Item}
 use Rattle.session_core.proofs.ItemLists.{items_go_on}
+use Rattle.live_session.specs.declared.step.CallStep.{CallStep}
 use Rattle.live_session.specs.declared.turned.ConnectionEnd.{ConnectionEnd}
 use Rattle.live_session.specs.declared.turned.ConnectionEnd.TheVariants.{Ended, Closed, ReadFault, WriteFault, MemberGone, Memory}
 use Rattle.live_session.specs.declared.turned.Turned.{Turned}
@@ -26,12 +28,12 @@ use Rattle.live_session.specs.declared.turned.Turned.TheVariants.{Moved, NotYet,
 use Rattle.live_session.specs.Connections.{AreCallsOf, HasAnswered, IsServed, IsServedTo, HasEnded as SessionEnded}
 use Rattle.loop_journal.specs.declared.entry.Entry.{Entry}
 use Rattle.live_session.specs.Among.{HasTurnedAmong}
-use Rattle.live_session.specs.Next.{noted_call}
-use Rattle.live_session.specs.Turns.{incoming, stream, HasTurned, StandsAfter, IsOver, IsAllWritten}
+use Rattle.live_session.specs.Next.{noted_of}
+use Rattle.live_session.specs.Turns.{incoming, stream, before_of, HasBroken, HasTurned, StandsAfter, IsOver, IsAllWritten}
 use Rattle.live_session.proofs.Calls.{calls_longer}
 use Rattle.live_session.proofs.Timing.{noted_both, in_time_read}
 use Rattle.live_server.specs.declared.client.Client.{Client}
-use Rattle.live_server.specs.Order.{Mark, entries_of, IsMarked, KeepsMarks, AreMarks}
+use Rattle.live_server.specs.Order.{Mark, entries_of, StartIsMarked, KeepsMarks, AreMarks}
 use Rattle.live_server.specs.Serving.{HaveMoved, IsComplete, IsCutShort, WasAnswered}
 use Rattle.live_server.specs.declared.client.Progress.{Progress}
 use Rattle.live_server.specs.declared.client.Progress.TheVariants.{Going, Ended as IsEnded}
@@ -41,10 +43,6 @@ use Rattle.live_server.proofs.Noting.{TurnMarks, turn_marks}
 use Rattle.live_session.specs.Starts.{Log, after_turn, AreGiven}
 use Rattle.live_session.specs.Times.{IsNotedWhole, IsInTime}
 use Rattle.live_session.proofs.Given.{gives_more, asks_more, given_with}
-
--- a count that rose has risen since it was less
-pub rose_since : (first mid last : ℕ) → first ≤ mid → Rose mid last → Rose first last
-rose_since first mid last before rose = ⊎_elim (λ (l : mid < last). inl (omega (arith, before, l))) (λ full. inr full) rose
 
 is_some : {A : Type 0} (o : Option A) (x : A) → o ≡ Some x → IsSome o
 is_some {A = A} o x e = subst (λ (p : Option A). IsSome p) (sym e) refl
@@ -78,16 +76,16 @@ module _ {T P E O : Type 0} (key_of : E → Key) (tells : P → List E → E →
       (subst (λ (m : ℕ). HasAnswered key_of tells call_of log place conn m seen read written left rest) same_member has)
 
 module _ {T P E O F K : Type 0} (key_of : E → Key) (tells : P → List E → E → LiveOutcome → Type 0) (call_of : ℕ → Request → ℕ → E) (place : Workplace T P E O) (given given_now : List ℕ) (journal journal_now : List Entry) (telling : Telling F K)
-    (arrivals : List Arrival) (marks marks_now : List Mark) (old new : Client T F K P E O) (was_unready from_unready to_unready now_unready : ℕ) (turned : Turned) (served : IsServedSince key_of tells call_of place given telling arrivals marks old)
+    (arrivals : List Arrival) (marks marks_now : List Mark) (old new : Client T F K P E O) (was_unready from_unready to_unready now_unready : ℕ) (turned : Turned) (step : CallStep) (served : IsServedSince key_of tells call_of place given telling arrivals marks old)
     (same_number : new.number ≡ old.number) (same_conn : new.connection.pass.conn ≡ old.connection.pass.conn) (same_member : new.connection.pass.member ≡ old.connection.pass.member)
     (read_faults : telling.read_faults old.from ≤ telling.read_faults new.from) (write_faults : telling.write_faults old.to ≤ telling.write_faults new.to)
-    (turn : HasTurned key_of tells call_of place given given_now journal journal_now old.connection.asked new.connection
+    (turn : HasTurned key_of tells call_of place given given_now journal journal_now (before_of old.connection) new.connection
     (record { from = incoming (telling.given old.from) (telling.read_faults old.from) was_unready; to = stream (telling.taken old.to) (telling.write_faults old.to) to_unready })
     (record { from = incoming (telling.given new.from) (telling.read_faults new.from) from_unready; to = stream (telling.taken new.to) (telling.write_faults new.to) now_unready })
-    served.seen served.log served.read served.written turned)
+    served.seen served.log served.read served.written turned step)
     (by_journal : served.log.entries ++ turn.entries ≡ own_of new.number (entries_of marks_now))
     (marked : KeepsMarks key_of marks_now new.number turn.sees)
-    (under_way : IfSome new.connection.asked (λ asked. IsMarked marks_now (noted_call asked) (length (turn.sees asked.started.partition)))) where
+    (under_way : StartIsMarked marks_now turn.sees (noted_of new.connection.asked)) where
   conn_now : new.connection.pass.conn ≡ new.number
   conn_now = same_conn ∙ (served.conn ∙ sym same_number)
 
@@ -106,7 +104,12 @@ module _ {T P E O F K : Type 0} (key_of : E → Key) (tells : P → List E → E
   }
 
   by_clock_now : AreGiven (after_turn served.log turn.started turn.entries).starts given_now
-  by_clock_now = given_with new.connection.asked given given_now turn.started served.log.starts turn.asks served.by_clock
+  by_clock_now = given_with step given given_now turn.started served.log.starts turn.asks served.by_clock
+
+  -- a write that failed was counted, before the turn or in it
+  broke : (broken : Bool) → old.connection.broken ≡ broken → HasBroken broken (telling.write_faults old.to) (telling.write_faults new.to) → Rose served.arrival.at.write_faults (telling.write_faults new.to)
+  broke true was has = Rose_until served.arrival.at.write_faults (telling.write_faults old.to) (telling.write_faults new.to) served.moved.write_faults (served.broken was) write_faults
+  broke false was has = Rose_since served.arrival.at.write_faults (telling.write_faults old.to) (telling.write_faults new.to) served.moved.write_faults has
 
   -- all that was read and written by now
   noted_now : IsNotedWhole new.number (after_turn served.log turn.started turn.entries).entries (served.read ++ turn.moves.read) (served.written ++ turn.moves.written)
@@ -132,6 +135,7 @@ module _ {T P E O F K : Type 0} (key_of : E → Key) (tells : P → List E → E
     served = now;
     marked = marked;
     under_way = under_way;
+    broken = λ broken. broke old.connection.broken refl (turn.breaks broken);
   }
 
   -- and else it has ended
@@ -172,14 +176,14 @@ module _ {T P E O F K : Type 0} (key_of : E → Key) (tells : P → List E → E
       → ((telling.given new.from).ended ≡ true) ⊎ IsSome (fault_of true (served.read ++ turn.moves.read)) → HasEnded key_of tells call_of place given_now telling arrivals marks_now new memory
   all_written memory all why = answered_with memory all.ended (inl (record { none_left = all.none_left; all_answered = all.all_answered; no_more = why }))
 
-  pub has_ended : (end : ConnectionEnd) → IsOver key_of tells call_of place end (after_turn served.log turn.started turn.entries) new.connection turn.sees (served.read ++ turn.moves.read) (served.written ++ turn.moves.written)
+  pub has_ended : (end : ConnectionEnd) → IsOver key_of tells call_of place end old.connection.broken (after_turn served.log turn.started turn.entries) new.connection turn.sees (served.read ++ turn.moves.read) (served.written ++ turn.moves.written)
       (record { from = incoming (telling.given old.from) (telling.read_faults old.from) was_unready; to = stream (telling.taken old.to) (telling.write_faults old.to) to_unready })
       (record { from = incoming (telling.given new.from) (telling.read_faults new.from) from_unready; to = stream (telling.taken new.to) (telling.write_faults new.to) now_unready })
       → HasEnded key_of tells call_of place given_now telling arrivals marks_now new (is_memory end)
   has_ended Ended over = all_written false over.0 (inl over.1)
   has_ended (Closed fault) over = all_written false over.0 (inr (is_some (fault_of true (served.read ++ turn.moves.read)) fault over.1))
-  has_ended ReadFault over = answered_with false over.0 (inr (inr (inl (rose_since served.arrival.at.read_faults (telling.read_faults old.from) (telling.read_faults new.from) served.moved.read_faults over.1))))
-  has_ended WriteFault over = answered_with false over.0 (inr (inr (inr (inl (rose_since served.arrival.at.write_faults (telling.write_faults old.to) (telling.write_faults new.to) served.moved.write_faults over.1)))))
+  has_ended ReadFault over = answered_with false over.0 (inr (inr (inl (Rose_since served.arrival.at.read_faults (telling.read_faults old.from) (telling.read_faults new.from) served.moved.read_faults over.1))))
+  has_ended WriteFault over = answered_with false over.0 (inr (inr (inr (inl (broke old.connection.broken refl over.1)))))
   has_ended MemberGone over = answered_with false over.ended (inr (inr (inr (inr (record {
     request = over.request;
     behind = over.next.0;
@@ -205,10 +209,10 @@ module _ {T P E O F K : Type 0} (key_of : E → Key) (tells : P → List E → E
       })
 
   -- what the turn came to
-  stands_at : (is : Turned) → turned ≡ is → StandsAfter key_of tells call_of place is (after_turn served.log turn.started turn.entries) old.connection.asked new.connection turn.sees (served.read ++ turn.moves.read) (served.written ++ turn.moves.written) turn.moves
+  stands_at : (is : Turned) → turned ≡ is → StandsAfter key_of tells call_of place is step (after_turn served.log turn.started turn.entries) (before_of old.connection) new.connection turn.sees (served.read ++ turn.moves.read) (served.written ++ turn.moves.written) turn.moves
       (record { from = incoming (telling.given old.from) (telling.read_faults old.from) was_unready; to = stream (telling.taken old.to) (telling.write_faults old.to) to_unready })
       (record { from = incoming (telling.given new.from) (telling.read_faults new.from) from_unready; to = stream (telling.taken new.to) (telling.write_faults new.to) now_unready })
-  stands_at is e = subst (λ (t : Turned). StandsAfter key_of tells call_of place t (after_turn served.log turn.started turn.entries) old.connection.asked new.connection turn.sees (served.read ++ turn.moves.read) (served.written ++ turn.moves.written) turn.moves
+  stands_at is e = subst (λ (t : Turned). StandsAfter key_of tells call_of place t step (after_turn served.log turn.started turn.entries) (before_of old.connection) new.connection turn.sees (served.read ++ turn.moves.read) (served.written ++ turn.moves.written) turn.moves
       (record { from = incoming (telling.given old.from) (telling.read_faults old.from) was_unready; to = stream (telling.taken old.to) (telling.write_faults old.to) to_unready })
       (record { from = incoming (telling.given new.from) (telling.read_faults new.from) from_unready; to = stream (telling.taken new.to) (telling.write_faults new.to) now_unready })) e turn.stands
 
@@ -240,14 +244,14 @@ module _ {T P E O F K : Type 0} (key_of : E → Key) (tells : P → List E → E
       → HasGoneOn key_of tells call_of place first_given given telling (Going 0) arrivals marks client known known_now journal → HasGoneOn key_of tells call_of place first_given given telling (Going moves) arrivals marks client known known_now journal
   going_by given moves client known known_now journal gone = record { gave = gone.gave; more = gone.more; own = gone.own; are_marks = gone.are_marks; learned = gone.learned; progress_is = gone.progress_is }
 
-  module _ (given given_now : List ℕ) (old new : Client T F K P E O) (was_unready from_unready to_unready now_unready : ℕ) (turned : Turned) (first known known_now : List (Told E)) (journal journal_now : List Entry)
+  module _ (given given_now : List ℕ) (old new : Client T F K P E O) (was_unready from_unready to_unready now_unready : ℕ) (turned : Turned) (step : CallStep) (first known known_now : List (Told E)) (journal journal_now : List Entry)
       (gone : HasGoneOn key_of tells call_of place first_given given telling (Going 0) arrivals marks old first known journal)
       (same_number : new.number ≡ old.number) (same_conn : new.connection.pass.conn ≡ old.connection.pass.conn) (same_member : new.connection.pass.member ≡ old.connection.pass.member)
       (read_faults : telling.read_faults old.from ≤ telling.read_faults new.from) (write_faults : telling.write_faults old.to ≤ telling.write_faults new.to) (as_long : length known ≡ length place.cells.items)
-      (among : HasTurnedAmong key_of tells call_of place given given_now journal journal_now old.connection.asked new.connection
+      (among : HasTurnedAmong key_of tells call_of place given given_now journal journal_now (before_of old.connection) new.connection
       (record { from = incoming (telling.given old.from) (telling.read_faults old.from) was_unready; to = stream (telling.taken old.to) (telling.write_faults old.to) to_unready })
       (record { from = incoming (telling.given new.from) (telling.read_faults new.from) from_unready; to = stream (telling.taken new.to) (telling.write_faults new.to) now_unready })
-      gone.progress_is.seen gone.progress_is.log gone.progress_is.read gone.progress_is.written turned known known_now) where
+      gone.progress_is.seen gone.progress_is.log gone.progress_is.read gone.progress_is.written turned step known known_now) where
     abbrev before : List Mark
     before = marks ++ gone.more
 
@@ -257,14 +261,14 @@ module _ {T P E O F K : Type 0} (key_of : E → Key) (tells : P → List E → E
     keeps : KeepsMarks key_of before new.number gone.progress_is.seen
     keeps = subst (λ (n : ℕ). KeepsMarks key_of before n gone.progress_is.seen) (sym same_number) gone.progress_is.marked
 
-    abbrev its : TurnMarks key_of tells call_of place given given_now old.connection.asked new.connection
+    abbrev its : TurnMarks key_of tells call_of place given given_now (before_of old.connection) new.connection
         (record { from = incoming (telling.given old.from) (telling.read_faults old.from) was_unready; to = stream (telling.taken old.to) (telling.write_faults old.to) to_unready })
         (record { from = incoming (telling.given new.from) (telling.read_faults new.from) from_unready; to = stream (telling.taken new.to) (telling.write_faults new.to) now_unready })
-        gone.progress_is.seen gone.progress_is.log gone.progress_is.read gone.progress_is.written turned known known_now journal journal_now among as_long new.number conn_is before gone.are_marks keeps
-    its = turn_marks key_of tells call_of place given given_now old.connection.asked new.connection
+        gone.progress_is.seen gone.progress_is.log gone.progress_is.read gone.progress_is.written turned step known known_now journal journal_now among as_long new.number conn_is before gone.are_marks keeps
+    its = turn_marks key_of tells call_of place given given_now (before_of old.connection) new.connection
         (record { from = incoming (telling.given old.from) (telling.read_faults old.from) was_unready; to = stream (telling.taken old.to) (telling.write_faults old.to) to_unready })
         (record { from = incoming (telling.given new.from) (telling.read_faults new.from) from_unready; to = stream (telling.taken new.to) (telling.write_faults new.to) now_unready })
-        gone.progress_is.seen gone.progress_is.log gone.progress_is.read gone.progress_is.written turned known known_now journal journal_now among as_long new.number conn_is before gone.are_marks keeps
+        gone.progress_is.seen gone.progress_is.log gone.progress_is.read gone.progress_is.written turned step known known_now journal journal_now among as_long new.number conn_is before gone.are_marks keeps
         gone.progress_is.under_way
 
     -- the journal has all that was done for the client
@@ -276,7 +280,7 @@ module _ {T P E O F K : Type 0} (key_of : E → Key) (tells : P → List E → E
     gone_on : (progress : Progress) → IsProgress key_of tells call_of place given_now telling progress arrivals (before ++ its.more) new
         → HasGoneOn key_of tells call_of place first_given given_now telling progress arrivals marks new first known_now journal_now
     gone_on progress is = record {
-      gave = gives_more first_given given given_now gone.gave (asks_more new.connection.asked given given_now among.turn.started among.turn.asks);
+      gave = gives_more first_given given given_now gone.gave (asks_more step given given_now among.turn.started among.turn.asks);
       more = gone.more ++ its.more;
       own = subst (AreOf new.number) (sym (map-append (λ (m : Mark). m.entry) gone.more its.more))
           (All-append (λ entry. conn_of entry ≡ new.number) (entries_of gone.more) (entries_of its.more) (subst (λ (n : ℕ). AreOf n (entries_of gone.more)) (sym same_number) gone.own)
@@ -287,13 +291,13 @@ module _ {T P E O F K : Type 0} (key_of : E → Key) (tells : P → List E → E
     }
 
     pub then_moved : turned ≡ Moved → HasGoneOn key_of tells call_of place first_given given_now telling (Going 0) arrivals marks new first known_now journal_now
-    then_moved e = gone_on (Going 0) (after_moved key_of tells call_of place given given_now journal journal_now telling arrivals before (before ++ its.more) old new was_unready from_unready to_unready now_unready turned gone.progress_is
+    then_moved e = gone_on (Going 0) (after_moved key_of tells call_of place given given_now journal journal_now telling arrivals before (before ++ its.more) old new was_unready from_unready to_unready now_unready turned step gone.progress_is
         same_number same_conn same_member read_faults write_faults among.turn by_journal_now its.marked its.under_way e)
 
     pub then_not_yet : (moves : ℕ) → turned ≡ NotYet → HasGoneOn key_of tells call_of place first_given given_now telling (Going moves) arrivals marks new first known_now journal_now
-    then_not_yet moves e = gone_on (Going moves) (after_not_yet key_of tells call_of place given given_now journal journal_now telling arrivals before (before ++ its.more) old new was_unready from_unready to_unready now_unready turned gone.progress_is
+    then_not_yet moves e = gone_on (Going moves) (after_not_yet key_of tells call_of place given given_now journal journal_now telling arrivals before (before ++ its.more) old new was_unready from_unready to_unready now_unready turned step gone.progress_is
         same_number same_conn same_member read_faults write_faults among.turn by_journal_now its.marked its.under_way e)
 
     pub then_end : (end : ConnectionEnd) → turned ≡ Over end → HasGoneOn key_of tells call_of place first_given given_now telling (IsEnded (is_memory end)) arrivals marks new first known_now journal_now
-    then_end end e = gone_on (IsEnded (is_memory end)) (after_end key_of tells call_of place given given_now journal journal_now telling arrivals before (before ++ its.more) old new was_unready from_unready to_unready now_unready turned gone.progress_is
+    then_end end e = gone_on (IsEnded (is_memory end)) (after_end key_of tells call_of place given given_now journal journal_now telling arrivals before (before ++ its.more) old new was_unready from_unready to_unready now_unready turned step gone.progress_is
         same_number same_conn same_member read_faults write_faults among.turn by_journal_now its.marked its.under_way end e)

@@ -62,6 +62,7 @@ module _ {T P E O : Type 0} (key_of : E → Key) (tells : P → List E → E →
       served = served.served;
       marked = served.marked;
       under_way = served.under_way;
+      broken = served.broken;
     }
 
     -- each connection is served as before

@@ -1,5 +1,5 @@
 -- The marks of a journal, as more is noted and seen.
-use Rattle.std.proofs.Common.{◌≡◌, ◌⊎◌, inl, inr, ⊎_elim, ℕ, zero, suc, ◌+◌, ◌<◌, ◌≤◌, true, List, [], ◌∷◌, ◌++◌, length, map, set, Option, Some, None, IfSome, slice_get, refl, sym, ap, ◌∙◌, subst, append_assoc, append-nil, arith, length-set}
+use Rattle.std.proofs.Common.{◌≡◌, ◌⊎◌, inl, inr, ⊎_elim, ℕ, zero, suc, ◌+◌, ◌<◌, ◌≤◌, true, List, [], ◌∷◌, ◌++◌, length, map, set, Option, Some, None, slice_get, refl, sym, ap, ◌∙◌, subst, append_assoc, append-nil, arith, length-set}
 use Rattle.std.proofs.lemmas.List.{length-append, map-append}
 use Rattle.std.proofs.lemmas.Option.{slice_get_within}
 use Rattle.grid_base.specs.declared.names.CallId.{CallId}
@@ -14,20 +14,19 @@ use Rattle.hand_cell.specs.Told.{Told, SeesMore, having_seen}
 use Rattle.loop_journal.specs.Journals.{own_of}
 use Rattle.partition_threads.specs.declared.workplace.Workplace.{Workplace}
 use Rattle.session_calls.specs.Passes.{HaveNumber}
-use Rattle.live_session.specs.declared.connection.Asked.{Asked}
 use Rattle.loop_journal.specs.declared.entry.Entry.{Entry}
 use Rattle.loop_journal.specs.declared.entry.Entry.TheVariants.{Started, Finished}
 use Rattle.loop_journal.specs.declared.entry.NotedCall.{NotedCall}
 use Rattle.live_session.specs.Among.{KnowsMore}
 use Rattle.live_session.specs.Connections.{AreBelow, StandsAt}
-use Rattle.live_session.specs.Next.{noted_call}
+use Rattle.live_session.specs.Next.{noted_of}
 use Rattle.live_session.proofs.Numbers.{none_below, stood_all}
 use Rattle.live_session.proofs.Passes.{same_or_other}
 use Rattle.live_session.proofs.Places.{get_front, same_some, none_some, set_other, set_there}
 use Rattle.loop_journal.proofs.Owning.{own_both}
 use Rattle.live_server.specs.declared.client.Client.{Client}
 use Rattle.live_server.specs.Clients.{IsServedSince}
-use Rattle.live_server.specs.Order.{WasSeenAt, KeepsOrder, Mark, entries_of, IsMarkIn, IsBetween, IsMarked, KeepsMarks, AreMarks, HaveLearned, seen_at, seen_of}
+use Rattle.live_server.specs.Order.{WasSeenAt, KeepsOrder, Mark, entries_of, IsMarkIn, IsBetween, IsMarked, StartIsMarked, KeepsMarks, AreMarks, HaveLearned, seen_at, seen_of}
 use Rattle.live_server.specs.Serving.{SawNone}
 use Rattle.live_server.proofs.Passing.{HaveGone, get_some, get_mapped}
 
@@ -70,6 +69,12 @@ marked_more marks more call seen sees less marked = record {
   started = get_front marks more marked.start _ marked.started;
   behind = let b : marked.before ≤ seen = marked.behind in omega (arith, b, less);
 }
+
+-- the start of the call that is under way stays marked, as no less was seen
+pub start_stays : {E : Type 0} (marks more : List Mark) (seen sees : ℕ → List E) → ((partition : ℕ) → length (seen partition) ≤ length (sees partition)) → (call : Option NotedCall)
+    → StartIsMarked marks seen call → StartIsMarked (marks ++ more) sees call
+start_stays marks more seen sees grew None marked = tt
+start_stays marks more seen sees grew (Some call) marked = marked_more marks more call (length (seen call.partition)) (length (sees call.partition)) (grew call.partition) marked
 
 module _ {E : Type 0} (key_of : E → Key) where
   -- as the connection's calls stand where they stood
@@ -292,11 +297,6 @@ module _ {T P E O F K : Type 0} (key_of : E → Key) (tells : P → List E → E
     seen = served.seen;
     served = served.served;
     marked = keeps_more key_of marks more client.number served.seen served.marked;
-    under_way = still client.connection.asked served.under_way;
+    under_way = start_stays marks more served.seen served.seen (λ partition. omega arith) (noted_of client.connection.asked) served.under_way;
+    broken = served.broken;
   }
-    where
-      still : (asked : Option (Asked T P E O)) → IfSome asked (λ a. IsMarked marks (noted_call a) (length (served.seen a.started.partition)))
-          → IfSome asked (λ a. IsMarked (marks ++ more) (noted_call a) (length (served.seen a.started.partition)))
-      still None none = tt
-      still (Some a) marked = let all : length (served.seen a.started.partition) ≤ length (served.seen a.started.partition) = omega arith in
-          marked_more marks more (noted_call a) (length (served.seen a.started.partition)) (length (served.seen a.started.partition)) all marked

@@ -63,6 +63,11 @@ pub record IsMarked (marks : List Mark) (call : NotedCall) (seen : ℕ) : Type 0
   pub started : slice_get marks start ≡ Some (record { entry = Started call; count = before })
   pub behind : before ≤ seen
 
+-- of a call that is under way, if one is, the start is marked, behind no more than this was seen of its partition
+abbrev pub StartIsMarked : {E : Type 0} → List Mark → (ℕ → List E) → Option NotedCall → Type 0
+StartIsMarked marks seen None = Unit {0}
+StartIsMarked marks seen (Some call) = IsMarked marks call (length (seen call.partition))
+
 module _ {E : Type 0} (key_of : E → Key) where
   -- each event of a connection's calls that was seen stands between its marks
   abbrev pub KeepsMarks : List Mark → ℕ → (ℕ → List E) → Type 0

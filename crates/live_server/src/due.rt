@@ -44,6 +44,11 @@ impl Due {
         }
     }
 
+    /// Whether none is due.
+    pub fn is_empty(&self) -> bool {
+        self.words.iter().all(|&word| word == 0)
+    }
+
     /// Takes all keys.
     pub fn take(&mut self) -> Due {
         mem::replace(self, Due::none())

@@ -1,6 +1,7 @@
 //! The loop of a server.
-ghost use Rattle.std.specs.Prelude.{◌≡◌, ℕ, length, IfOk};
+ghost use Rattle.std.specs.Prelude.{◌≡◌, ℕ, length, IfOk, All};
 ghost use Rattle.grid_edge.specs.Faults.{HasCause};
+ghost use Rattle.hand_cell.specs.Calls.{plan_of};
 ghost use Rattle.live_session.specs.Connections.{ServesCalls};
 ghost use Rattle.live_server.specs.Clients.{telling_by};
 ghost use Rattle.live_server.specs.Order.{KeepsOrder};
@@ -14,20 +15,15 @@ use crate::closing::{Closed, Closing};
 use crate::connections::{Connections, MOST_NUMBERS};
 use crate::due::Due;
 use crate::entrance::{Entrance, Outside};
+use crate::pause::{Pause, rest};
 use crate::rounds::{go_round, hear_ready};
 use grid_edge::{Clock, DoorFault, Doors};
-use hand_cell::Served;
+use hand_cell::{Runs, Served};
+use live_session::PIECE;
 use loop_journal::Journal;
-use partition_threads::Workplace;
+use partition_threads::{Gate, Workplace};
 use std::alloc::Global;
 use std::sync::Wait;
-use std::thread;
-
-/// After how many looks in a row that found nothing ready the thread sleeps.
-const MOST_LOOKS: usize = 200;
-
-/// How long it sleeps at most, in milliseconds.
-const LONGEST_SLEEP: u32 = 1000;
 
 /// Serves the connections that come through the doors, which were opened before. Each is served at the member that it
 /// came to, with its number at the doors as the one of its session, and is given back once it has ended. At most 1,024
@@ -48,19 +44,34 @@ const LONGEST_SLEEP: u32 = 1000;
 /// (`HasAnswered`); and where one call's outcome was found before another was started, its event stands first
 /// (`KeepsOrder`). Nothing is said of calls of two servers.
 ///
-/// A round costs a look at 16 words, and the turns of the connections that are due, up to eight of each: those that came
-/// since the last round, those of which the doors told since that they may be ready, those that had eight turns, and those
-/// with a call under way. A connection that is idle costs nothing.
-pub fn serve<T: Served, D: Doors, C: Clock, R: Wait>(
+/// Calls are made on this thread where that can be, in this environment, and else handed to the grid's workers; the gate is
+/// called as they are run, as by a worker. The calls that one read gives are answered in one round and by one write, where all
+/// are made so and they are few enough: each is a turn, and the read and the write are two.
+///
+/// A round costs a look at 16 words, and the turns of the connections that are due, up to 64 of each: those that came
+/// since the last round, those of which the doors told since that they may be ready, those that had 64 turns, and those
+/// with a call under way. A turn reads or writes once, or takes up one message, and no connection keeps more than 64 KiB of
+/// answers unwritten when it takes one up: so the calls and the bytes of one round are bounded for each connection, and none
+/// starves. A connection that is idle costs nothing.
+pub fn serve<N, T, D, C, G, R>(
     rt: &R,
     alloc: Global,
     place: &Workplace<T>,
+    env: &N,
+    gate: &G,
     connections: &mut Connections<T, D::From, D::To>,
     doors: &mut D,
     clock: &mut C,
     closing: &Closing,
 ) -> Result<Closed<D>, DoorFault>
+where
+    T: Served + Runs<N>,
+    D: Doors,
+    C: Clock,
+    G: Gate,
+    R: Wait,
     requires calls { ServesCalls T.fits place.now }
+    requires env { All (λ cell. T.means env.now (plan_of cell)) place.now.cells.items }
     requires may { MayServe T.key_of place.now connections.old (D.book doors.old) }
     ensures served { HasServedAll T.key_of T.tells T.call_of place.now (C.given clock.new)
         connections.new.journal connections.new.passes.items (D.book doors.new) }
@@ -73,9 +84,23 @@ pub fn serve<T: Served, D: Doors, C: Clock, R: Wait>(
     ensures opening { (D.book doors.new).opening ≡ (D.book doors.old).opening }
     ensures cause { HasCause (D.faults doors.old) (D.faults doors.new) result }
 {
+    let mut piece = [0; PIECE];
     let mut rounds = Rounds::new(place, connections, doors, clock);
     for _ in rt.forever() {
-        match serve_round(rt, alloc, place, connections, doors, clock, closing, rounds) {
+        let round = serve_round(
+            rt,
+            alloc,
+            place,
+            env,
+            gate,
+            &mut piece,
+            connections,
+            doors,
+            clock,
+            closing,
+            rounds,
+        );
+        match round {
             Round::Next(next) => rounds = next,
             Round::Last(ended) => return ended,
         }
@@ -128,19 +153,30 @@ impl<D: Doors> Rounds<D> {
 }
 
 /// One round of `serve`: lets connections in, unless no more are let in, gives each connection that is due its turns, and
-/// sleeps where nothing is ready. After it, as before, each connection that came is served, as far as it was heard, or was
-/// served to its end and given back. Costs a look at 16 words, and the turns.
-pub fn serve_round<T: Served, D: Doors, C: Clock, R: Wait>(
+/// sleeps where nobody is due. Connections read by way of `piece`, which keeps nothing. After it, as before, each connection
+/// that came is served, as far as it was heard, or was served to its end and given back. Costs a look at 16 words, and the
+/// turns.
+pub fn serve_round<N, T, D, C, G, R>(
     rt: &R,
     alloc: Global,
     place: &Workplace<T>,
+    env: &N,
+    gate: &G,
+    piece: &mut [u8; PIECE],
     connections: &mut Connections<T, D::From, D::To>,
     doors: &mut D,
     clock: &mut C,
     closing: &Closing,
     rounds: Rounds<D>,
 ) -> Round<D>
+where
+    T: Served + Runs<N>,
+    D: Doors,
+    C: Clock,
+    G: Gate,
+    R: Wait,
     requires calls { ServesCalls T.fits place.now }
+    requires env { All (λ cell. T.means env.now (plan_of cell)) place.now.cells.items }
     requires serving { IsServing T.key_of T.tells T.call_of place.now (C.given clock.old)
         (telling_by D.From.given D.From.faults D.To.taken D.To.faults) connections.old (D.book doors.old) }
     ensures serving { IsServing T.key_of T.tells T.call_of place.now (C.given clock.new)
@@ -167,11 +203,23 @@ pub fn serve_round<T: Served, D: Doors, C: Clock, R: Wait>(
         entrance,
     );
     hear_ready(doors, &mut due);
-    let went = go_round(rt, alloc, place, connections, &mut due, doors, clock);
+    let went = go_round(
+        rt,
+        alloc,
+        place,
+        env,
+        gate,
+        piece,
+        connections,
+        &mut due,
+        doors,
+        clock,
+    );
     if connections.clients.is_empty() && !outside.entrance.is_open() {
         return Round::Last(outside.entrance.told());
     }
-    let rested = rest(doors, went.moved || outside.came, idle, went.due);
+    let pause = Pause::after(&due, went, outside.came);
+    let rested = rest(doors, pause, idle);
     Round::Next(Rounds {
         entrance: outside.entrance.after(&rested),
         due: if rested.is_ok() { due } else { Due::all() },
@@ -222,28 +270,4 @@ fn look_outside<T: Served, D: Doors, C: Clock>(
             came: false,
         },
     }
-}
-
-/// What the thread does after a round: where nothing moved it lets others run, and after few such rounds in a row it
-/// sleeps. `idle` is how many looks in a row found nothing ready before, and `due` of how many connections this round's were;
-/// gives the number for the next round.
-///
-/// Each round has a wait, though it be of no time: doors may tell only there what has come to streams that weren't ready.
-/// Where it fails all connections are due, since no doors tell of them.
-fn rest<D: Doors>(doors: &mut D, moved: bool, idle: usize, due: usize) -> Result<usize, DoorFault>
-    ensures book { D.book doors.new ≡ D.book doors.old }
-    ensures looks { D.empty_looks doors.new ≡ D.empty_looks doors.old }
-    ensures cause { HasCause (D.faults doors.old) (D.faults doors.new) result }
-{
-    if moved {
-        doors.wait(0)?;
-        return Ok(0);
-    }
-    if idle < MOST_LOOKS {
-        thread::yield_now();
-        doors.wait(0)?;
-        return Ok(idle.saturating_add(due).saturating_add(1));
-    }
-    doors.wait(LONGEST_SLEEP)?;
-    Ok(0)
 }

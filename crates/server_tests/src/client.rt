@@ -14,9 +14,13 @@ const PUT: &[u8] =
 const GET: &[u8] =
     b"\x1e\0\0\0\0\xc0\0\x02\x01\0\x02\0\0\0\0\0\0\0\x05\0\0\0\x01\0\0\0\0\0\0\0\x07\0\0\0\0\0m\x0f\0\0\0\0\x20\0\0\0\x05\xff\xff\xff\xf5k";
 
-/// A get of a key of partition 2, with the correlation 3.
-const OTHER_GET: &[u8] =
-    b"\x1e\0\0\0\0\xc0\0\x02\x01\0\x03\0\0\0\0\0\0\0\x02\0\0\0\x01\0\0\0\0\0\0\0\x07\0\0\0\0\0m\x0f\0\0\0\0\x20\0\0\0\x02\xff\xff\xff\xf5k";
+/// The run of a processor in partition 5, with the correlation 2.
+const EXECUTE: &[u8] =
+    b"\x1e\0\0\0\0\xc0\0\x2e\x01\0\x02\0\0\0\0\0\0\0\x05\0\0\0\x01\0\0\0\0\0\0\0\x07\0\0\0\0\0m\x0b\0\0\0\0\0\x01\0\0\0\x02\x0f\0\0\0\0\x20\0\0\0\x05\xff\xff\xff\xf5k";
+
+/// The run of a processor in partition 2, with the correlation 3.
+const OTHER_EXECUTE: &[u8] =
+    b"\x1e\0\0\0\0\xc0\0\x2e\x01\0\x03\0\0\0\0\0\0\0\x02\0\0\0\x01\0\0\0\0\0\0\0\x07\0\0\0\0\0m\x0b\0\0\0\0\0\x01\0\0\0\x02\x0f\0\0\0\0\x20\0\0\0\x02\xff\xff\xff\xf5k";
 
 /// A ping with the correlation 1.
 const PING: &[u8] = b"\x16\0\0\0\0\xe0\0\x0b\0\0\x01\0\0\0\0\0\0\0\xff\xff\xff\xff";
@@ -56,12 +60,12 @@ pub(crate) fn pings(alloc: Global) -> Result<Vec<u8>, Memory> {
     joined(alloc, &[HELLO, PING])
 }
 
-/// A client that makes itself known, and gets in partition 5.
-pub(crate) fn gets(alloc: Global) -> Result<Vec<u8>, Memory> {
-    joined(alloc, &[HELLO, GET])
+/// A client that makes itself known, and has a processor run in partition 5, which a worker does and never the server's loop.
+pub(crate) fn executes(alloc: Global) -> Result<Vec<u8>, Memory> {
+    joined(alloc, &[HELLO, EXECUTE])
 }
 
-/// One that gets in partition 2.
-pub(crate) fn gets_elsewhere(alloc: Global) -> Result<Vec<u8>, Memory> {
-    joined(alloc, &[HELLO, OTHER_GET])
+/// One that runs it in partition 2.
+pub(crate) fn executes_elsewhere(alloc: Global) -> Result<Vec<u8>, Memory> {
+    joined(alloc, &[HELLO, OTHER_EXECUTE])
 }

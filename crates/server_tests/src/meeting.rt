@@ -1,5 +1,5 @@
-//! Calls in two partitions, each inside its turn at once.
-use crate::client::{gets, gets_elsewhere};
+//! Calls of two workers in two partitions, each inside its turn at once.
+use crate::client::{executes, executes_elsewhere};
 use crate::hall::{guest, run};
 use grid_base::{CallId, MemberId, PartitionId};
 use grid_cli::Status;
@@ -38,8 +38,8 @@ impl Gate for Meeting {
 fn calls_in_two_partitions_are_in_their_turns_at_once(rt: HostRuntime) -> Result<(), Fail> {
     let alloc = rt.alloc();
     let mut guests = Vec::new(alloc);
-    guests.push(guest(alloc, 2, gets(alloc)?))?;
-    guests.push(guest(alloc, 2, gets_elsewhere(alloc)?))?;
+    guests.push(guest(alloc, 2, executes(alloc)?))?;
+    guests.push(guest(alloc, 2, executes_elsewhere(alloc)?))?;
     let doors = MemoryDoors::new(guests, Vec::new(alloc))?;
     let gate = Meeting {
         inside: AtomicU64::new(0),

@@ -15,7 +15,7 @@ use crate::connection::live::{Live, WORKER, environment};
 use grid_base::Memory;
 use grid_edge::{FixedClock, MemoryReady, MemorySink, MemorySource};
 use live_grid::{LiveGrid, LiveWorld};
-use live_session::{Blocking, Connection, ConnectionEnd, Turned, serve_connection};
+use live_session::{Blocking, Connection, ConnectionEnd, PIECE, Turned, serve_connection};
 use loop_journal::Journal;
 use partition_threads::{OpenGate, WorkerTokens, Workplace, worker};
 use session_calls::SessionPass;
@@ -60,21 +60,28 @@ fn take_turns<R: Wait>(
 ) -> (ConnectionEnd, Unready)
     requires fresh { IsFresh live_key place.now session none_seen }
     requires serves { ServesCalls RequestFits place.now }
+    requires plans { All (λ cell. settings_for (plan_of cell) ≡ settings_in [] 10) place.now.cells.items }
 {
     let (mut from, mut to) = streams;
     let mut clock = FixedClock::new(7);
     let mut journal = Journal::new();
     let mut connection = Connection::new(alloc, session);
+    let env = environment(alloc);
+    let mut piece = [0; PIECE];
     for _ in rt.forever() {
-        match connection.turn(
+        let turn = connection.turn(
             rt,
             alloc,
             place,
+            &env,
+            &OpenGate,
+            &mut piece,
             &mut from,
             &mut to,
             &mut clock,
             &mut journal,
-        ) {
+        );
+        match turn.came_to {
             Turned::Moved => {}
             Turned::NotYet => thread::yield_now(),
             Turned::Ended(end) => {
@@ -96,6 +103,7 @@ fn serve_by_turns<R: Wait>(
 ) -> (ConnectionEnd, Unready)
     requires fresh { IsFresh live_key (place_of grid.now) session none_seen }
     requires serves { ServesCalls RequestFits (place_of grid.now) }
+    requires plans { All (λ cell. settings_for (plan_of cell) ≡ settings_in [] 10) (place_of grid.now).cells.items }
 {
     take_turns(rt, alloc, grid.workplace(), session, streams)
 }
@@ -190,12 +198,16 @@ fn serve<R: Wait>(
 ) -> (ConnectionEnd, Blocking<MemorySink>)
     requires fresh { IsFresh live_key (place_of grid.now) session none_seen }
     requires serves { ServesCalls RequestFits (place_of grid.now) }
+    requires plans { All (λ cell. settings_for (plan_of cell) ≡ settings_in [] 10) (place_of grid.now).cells.items }
 {
     let mut from = Blocking::new(said);
     let mut to = Blocking::new(MemorySink::in_pieces(Vec::new(alloc), MOST_HEARD));
     let place = grid.workplace();
     let mut clock = FixedClock::new(7);
-    let (end, _) = serve_connection(rt, alloc, place, session, &mut from, &mut to, &mut clock);
+    let env = environment(alloc);
+    let (end, _) = serve_connection(
+        rt, alloc, place, &env, &OpenGate, session, &mut from, &mut to, &mut clock,
+    );
     place.stop();
     (end, to)
 }

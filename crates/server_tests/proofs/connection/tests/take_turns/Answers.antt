@@ -1,6 +1,7 @@
-use Rattle.std.proofs.Common.{[], ◌++◌}
-use Rattle.live_session.specs.Starts.{after_turn, nothing_done}
+use Rattle.std.proofs.Common.{[]}
+use Rattle.live_session.specs.Starts.{nothing_done}
 use Rattle.server_tests.specs.Sessions.{none_seen}
+use Rattle.server_tests.proofs.Going.{served_moved, served_waiting}
 use Rattle.server_tests.proofs.connection.tests.take_turns.Goals as goal
 
 pub loop-init : goal.loop-init
@@ -9,11 +10,9 @@ loop-init g c = (none_seen, nothing_done, [], [], c.new-connection.ensures.serve
 pub loop-preserved-in-Moved : goal.loop-preserved-in-Moved
 loop-preserved-in-Moved g c =
     let s = c.loop.invariant in
-    let turn = c.in-Moved.ensures.turned s.0 s.1 s.2 s.3 s.4 in
-    (turn.sees, after_turn s.1 turn.started turn.entries, s.2 ++ turn.moves.read, s.3 ++ turn.moves.written, turn.stands.0)
+    served_moved c.args.place.now _ _ _ _ _ _ _ _ _ _ _ _ _ _ (c.turn-turn.ensures.turned s.0 s.1 s.2 s.3 s.4) c.in-Moved.is
 
 pub loop-preserved : goal.loop-preserved
 loop-preserved g c =
     let s = c.loop.invariant in
-    let turn = c.in-NotYet.ensures.turned s.0 s.1 s.2 s.3 s.4 in
-    (turn.sees, after_turn s.1 turn.started turn.entries, s.2 ++ turn.moves.read, s.3 ++ turn.moves.written, turn.stands.0)
+    served_waiting c.args.place.now _ _ _ _ _ _ _ _ _ _ _ _ _ _ (c.turn-turn.ensures.turned s.0 s.1 s.2 s.3 s.4) c.in-NotYet.is
