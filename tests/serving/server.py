@@ -125,12 +125,21 @@ class Server:
     """A server that runs. Standard input is its console. It is killed at the end of its `with`, if it still runs then."""
 
     def __init__(
-        self, *, members: int = 3, backups: int = 1, capacity: int = 1000, stay: bool = True, limits: Limits | None = None
+        self,
+        *,
+        members: int = 3,
+        backups: int = 1,
+        capacity: int = 1000,
+        loops: int | None = None,
+        stay: bool = True,
+        limits: Limits | None = None,
     ) -> None:
+        """Starts a server with these options. Without a number of loops the program has its own."""
         self.members = members
         self.limits = limits
         self.options = ["--members", str(members), "--backups", str(backups), "--capacity", str(capacity)]
         self.options += ["--stay"] if stay else []
+        self.options += ["--loops", str(loops)] if loops is not None else []
         self.start()
 
     def start(self) -> None:

@@ -5,7 +5,7 @@ from __future__ import annotations
 
 import struct
 from dataclasses import dataclass
-from enum import IntEnum, IntFlag
+from enum import IntEnum
 
 PREFIX = b"CP2"
 PARTITIONS = 271
@@ -14,7 +14,7 @@ CLUSTER = "dev"
 NO_PARTITION = -1
 
 
-class Flag(IntFlag):
+class Flag(IntEnum):
     BEGINS = 0x8000
     ENDS = 0x4000
     FINAL = 0x2000
@@ -29,9 +29,15 @@ class Kind(IntEnum):
     PING = 0x000B00
     PUT = 0x010100
     GET = 0x010200
+    REMOVE = 0x010300
+    REPLACE_IF_SAME = 0x010500
+    PUT_IF_ABSENT = 0x010E00
+    SET = 0x010F00
+    EXECUTE = 0x012E00
     OFFER = 0x030100
-    POLL = 0x030500
     SIZE = 0x030300
+    POLL = 0x030500
+    PEEK = 0x030700
 
 
 class Refusal(IntEnum):
@@ -106,14 +112,40 @@ def ping(correlation: int) -> bytes:
     return message(beginning(Kind.PING, correlation))
 
 
+def on_map(kind: Kind, correlation: int, key: Key, fields: bytes, *frames: bytes, name: str = "m") -> bytes:
+    """A call on an entry of a map, with these frames behind its name."""
+    return message(beginning(kind, correlation, key.partition) + fields, name.encode(), *frames)
+
+
 def put(correlation: int, key: Key, value: bytes, *, thread: int = 1, time_to_live: int = 0, name: str = "m") -> bytes:
     fields = struct.pack("<qq", thread, time_to_live)
-    return message(beginning(Kind.PUT, correlation, key.partition) + fields, name.encode(), key.spelling, value)
+    return on_map(Kind.PUT, correlation, key, fields, key.spelling, value, name=name)
+
+
+def put_if_absent(correlation: int, key: Key, value: bytes) -> bytes:
+    return on_map(Kind.PUT_IF_ABSENT, correlation, key, struct.pack("<qq", 1, 0), key.spelling, value)
+
+
+def put_blindly(correlation: int, key: Key, value: bytes) -> bytes:
+    """A put whose answer doesn't tell what was there."""
+    return on_map(Kind.SET, correlation, key, struct.pack("<qq", 1, 0), key.spelling, value)
 
 
 def get(correlation: int, key: Key, *, thread: int = 1, name: str = "m") -> bytes:
-    first = beginning(Kind.GET, correlation, key.partition) + struct.pack("<q", thread)
-    return message(first, name.encode(), key.spelling)
+    return on_map(Kind.GET, correlation, key, struct.pack("<q", thread), key.spelling, name=name)
+
+
+def remove(correlation: int, key: Key) -> bytes:
+    return on_map(Kind.REMOVE, correlation, key, struct.pack("<q", 1), key.spelling)
+
+
+def replace_if_same(correlation: int, key: Key, test: bytes, value: bytes) -> bytes:
+    return on_map(Kind.REPLACE_IF_SAME, correlation, key, struct.pack("<q", 1), key.spelling, test, value)
+
+
+def add(correlation: int, key: Key, number: int) -> bytes:
+    """The processor that adds a number."""
+    return on_map(Kind.EXECUTE, correlation, key, struct.pack("<q", 1), struct.pack("<iq", 1, number), key.spelling)
 
 
 def offer(correlation: int, partition: int, name: str, value: bytes) -> bytes:
@@ -122,6 +154,10 @@ def offer(correlation: int, partition: int, name: str, value: bytes) -> bytes:
 
 def poll(correlation: int, partition: int, name: str) -> bytes:
     return message(beginning(Kind.POLL, correlation, partition), name.encode())
+
+
+def peek(correlation: int, partition: int, name: str) -> bytes:
+    return message(beginning(Kind.PEEK, correlation, partition), name.encode())
 
 
 def size(correlation: int, partition: int, name: str) -> bytes:
@@ -170,12 +206,13 @@ def refused(correlation: int, refusal: int, first: int = 0, second: int = 0) -> 
 
 @dataclass(frozen=True)
 class Answer:
-    """An answer, read: an error's `refusal` and `version`, or else frames behind the first one."""
+    """An answer, read: an error's `refusal` and `version`, or else fixed fields and the frames behind the first one."""
 
     kind: int
     correlation: int
     refusal: int | None
     version: int | None
+    fields: bytes
     frames: tuple[bytes | None, ...]
 
     @property
@@ -183,6 +220,16 @@ class Answer:
         """What an answer with one frame gives; None is null."""
         (value,) = self.frames
         return value
+
+    @property
+    def flag(self) -> bool:
+        (flag,) = struct.unpack("<?", self.fields)
+        return flag
+
+    @property
+    def number(self) -> int:
+        (number,) = struct.unpack("<i", self.fields)
+        return number
 
 
 class NoMessage(ValueError):
@@ -221,5 +268,5 @@ def read_answer(whole: bytes) -> Answer:
     kind, correlation = struct.unpack_from("<Iq", first)
     if kind == Kind.ERROR:
         refusal, version, _ = struct.unpack_from("<iii", first, 13)
-        return Answer(kind, correlation, refusal, version, tuple(frames))
-    return Answer(kind, correlation, None, None, tuple(frames))
+        return Answer(kind, correlation, refusal, version, b"", tuple(frames))
+    return Answer(kind, correlation, None, None, first[13:], tuple(frames))
