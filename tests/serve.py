@@ -1,6 +1,7 @@
 #!/usr/bin/env -S python3 -B
-"""Runs `grid serve` over real sockets, with an operator's console. Run it from anywhere, after `rt ci` or `rt run` in
-crates/grid has built the program: tests/serve.py. GRID names another.
+"""Runs `grid serve` over real sockets, with an operator's console, and looks whether the calls of pipelines have an order while
+members crash. Run it from anywhere, after `rt ci` or `rt run` in crates/grid has built the program: tests/serve.py. GRID names
+another.
 
     tests/serve.py [--times] [WORD..]
 
@@ -12,11 +13,11 @@ from __future__ import annotations
 import os
 import sys
 
-from serve_tests import calls, command, console, crashes, load, scenarios, streams
+from serve_tests import calls, command, console, crashes, load, orders, pipelines, scenarios, streams
 from serving.checks import Test, run_tests
 from serving.server import end_when_told, program, raise_descriptor_limit
 
-MODULES = (calls, scenarios, streams, load, command, console, crashes)
+MODULES = (calls, scenarios, streams, load, command, console, crashes, orders, pipelines)
 
 TESTS: list[Test] = [test for module in MODULES for test in module.TESTS]
 
