@@ -175,19 +175,28 @@ time_shape() {
     16p) load -t "$threads" -p 16 16 "${run[@]}" ;;
     16k) load -t "$threads" -v 16384 16 "${run[@]}" ;;
     busy)
+        local status=0
         start_busy
-        load -t "$threads" 16 "${run[@]}"
+        load -t "$threads" 16 "${run[@]}" || status=$?
         stop_busy
+        return "$status"
         ;;
     idle) load -i 1000 1 "${run[@]}" ;;
     *) load -t "$threads" "$1" "${run[@]}" ;;
     esac
 }
 
-# A line of times for each shape.
+# Starts the kind anew, with nothing kept.
+start_anew() {
+    stop_all
+    "start_$kind"
+}
+
+# A line of times for each shape. A client knows what it reads by the length that it put, so values of 16 KB have a server of their own.
 time_calls() {
     local shape line
     for shape in $shapes; do
+        [ "$shape" != 16k ] || start_anew
         if ! line=$(time_shape "$shape"); then
             printf '%-10s %11s %12s\n' "$kind" "$shape" failed
             continue
@@ -195,6 +204,7 @@ time_calls() {
         # calls, seconds, calls a second, and the times of the median, of 99 and of 999 in a thousand
         set -- $line
         printf '%-10s %11s %12d %9.1f %9.1f %9.1f\n' "$kind" "$shape" "$3" "$4" "$5" "$6" | tee -a "$work/times"
+        [ "$shape" != 16k ] || start_anew
     done
 }
 
@@ -203,8 +213,7 @@ time_kind() {
     time_calls
     local rest
     rest=$(load 64 "$keys" idle 10 "${started[@]}")
-    stop_all
-    "start_$kind"
+    start_anew
     local memory
     memory=$(load 16 "$keys" memory 10000 1000000 "${started[@]}")
     stop_all
