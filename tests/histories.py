@@ -5,10 +5,10 @@ the program: tests/histories.py. GRID names another.
 
     tests/histories.py [--calls N] [--seed S] [--members M] [--backups B] [--loops L]
 
-Without options it is a hundred thousand calls on three members with one backup. A line for each grid says how far it is and which
-seed the grid had; the same seed doesn't make the same run, since threads and sockets have a say. A line for each fault says what is
-wrong; the last line is 'N passed, M failed', where each history and each fault counts once, and the exit status is 0 where none
-failed."""
+Without options it is a hundred thousand calls on three members with one backup, which take some twelve seconds; a million take two
+minutes. A line for each grid says how far it is and which seed the grid had; the same seed doesn't make the same run, since threads
+and sockets have a say. A line for each fault says what is wrong; the last line is 'N passed, M failed', where each history and each
+fault counts once, and the exit status is 0 where none failed."""
 
 from __future__ import annotations
 
