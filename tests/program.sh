@@ -229,6 +229,10 @@ for option in members backups capacity port stay; do
 done
 compare 'the installed unit' "ExecStart=$room/prefix/bin/grid" \
     "$(grep -o '^ExecStart=[^ ]*' "$room/prefix/lib/systemd/system/grid.service")"
+options=$(sed -n 's/^Environment="GRID_OPTIONS=\(.*\)"$/\1/p' "$room/prefix/lib/systemd/system/grid.service")
+# shellcheck disable=SC2086
+run serve --stay $options --help
+compare "the installed unit's options" 0 "$status"
 compare 'the installed client' grid_client \
     "$(PYTHONPATH=$(dirname "$(tail -n 1 "$room/installed")") python3 -c 'import grid_client; print(grid_client.GridClient.__module__.split(".")[0])')"
 GRID=$room/none ./install "$room/prefix" 2>"$room/err"
