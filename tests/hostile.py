@@ -4,39 +4,25 @@ no good client does, over real sockets, and the system give the program too few 
 anywhere, with a C compiler at hand, after `rt ci` or `rt run` in crates/grid has built the program: tests/hostile.py. GRID names
 another.
 
-    tests/hostile.py [--times] [WORD..]
+    tests/hostile.py [--times] [--loops L] [WORD..]
 
-Runs the tests in whose names a WORD stands, or all. `--times` also tells each test, with its time. A line for each failure
-says what was wanted and what came; the last line is 'N passed, M failed', and the exit status is 0 where none failed."""
+Servers have as many loops as the program has by itself, or L. Runs the tests in whose names a WORD stands, or all. `--times` also
+tells each test, with its time. A line for each failure says what was wanted and what came; the last line is 'N passed, M failed', and
+the exit status is 0 where none failed."""
 
 from __future__ import annotations
 
-import os
 import sys
 
 from hostile_tests import clients, closes, consoles, crashes, interrupts, masters, threads
-from serving.checks import Test, run_tests
-from serving.server import end_when_told, program, raise_descriptor_limit
+from serving.suites import Suite
 
-MODULES = (crashes, masters, closes, clients, consoles, threads, interrupts)
-
-TESTS: list[Test] = [test for module in MODULES for test in module.TESTS]
-
-
-def chosen(words: list[str]) -> list[Test]:
-    return [test for test in TESTS if not words or any(word in test.__name__ for word in words)]
-
-
-def main(words: list[str]) -> int:
-    if not os.access(program(), os.X_OK):
-        print(f"no program at {program()}: build it with 'rt ci', or set GRID")
-        print("0 passed, 1 failed")
-        return 1
-    end_when_told()
-    raise_descriptor_limit()
-    told = "--times" in words
-    return 0 if run_tests(chosen([word for word in words if word != "--times"]), told=told, suite="hostile") else 1
-
+SUITE = Suite(
+    name="hostile",
+    alone=(crashes, masters),
+    on_servers=(closes, clients, consoles, threads, interrupts),
+    loops=(None,),
+)
 
 if __name__ == "__main__":
-    sys.exit(main(sys.argv[1:]))
+    sys.exit(SUITE.main(__doc__))

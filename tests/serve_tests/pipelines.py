@@ -5,7 +5,6 @@ from __future__ import annotations
 
 import threading
 import time
-from collections.abc import Iterator
 from contextlib import suppress
 
 from playing.grids import NOTHING, play_grid
@@ -23,17 +22,6 @@ from serve_tests.streams import FAULTS, bystander
 PRIMARY, PARTITION = 2, 5
 ELSEWHERE = Key(6, "elsewhere")
 
-# With how many loops each test has a server; None is as many as the program has by itself.
-LOOPS: tuple[int | None, ...] = (None,)
-
-
-def servers() -> Iterator[Server]:
-    """A server for each number of loops."""
-    for loops in LOOPS:
-        with Server(loops=loops) as server:
-            yield server
-
-
 # Histories.
 
 GRIDS, CALLS = 2, 5000
@@ -42,15 +30,14 @@ GRIDS, CALLS = 2, 5000
 def pipelines_have_an_order(checks: Checks) -> None:
     """Twelve clients send pipelines of sixteen calls on nine objects while partitions move, members join their rows, and members
     crash. Answers come in the order of the calls, and the calls on each object can have happened one after the other."""
-    for loops in LOOPS:
-        played = NOTHING
-        for _ in range(GRIDS):
-            played += play_grid(CALLS, time.monotonic_ns(), loops=loops)
-        checks.equal("what isn't as it has to be", [], played.wrong)
-        checks.at_least("calls that were answered", GRIDS * CALLS, played.answered)
-        checks.equal("crashes, and detections", [2 * GRIDS, 2 * GRIDS], [played.done["crash"], played.done["detect"]])
-        for line in ("move", "join", "advance"):
-            checks.at_least(f"lines '{line}' that began something", 1, played.done[line])
+    played = NOTHING
+    for _ in range(GRIDS):
+        played += play_grid(CALLS, time.monotonic_ns())
+    checks.equal("what isn't as it has to be", [], played.wrong)
+    checks.at_least("calls that were answered", GRIDS * CALLS, played.answered)
+    checks.equal("crashes, and detections", [2 * GRIDS, 2 * GRIDS], [played.done["crash"], played.done["detect"]])
+    for line in ("move", "join", "advance"):
+        checks.at_least(f"lines '{line}' that began something", 1, played.done[line])
 
 
 # In pieces, and broken off by a fault.
@@ -81,7 +68,7 @@ def sixteen_calls(name: str) -> list[tuple[bytes, bytes]]:
 
 def a_pipeline_in_single_bytes_is_answered_alike(checks: Checks) -> None:
     """Sixteen calls in one write, and sixteen whose bytes come one by one, have the same answers, in the order of the calls."""
-    for server in servers():
+    with Server() as server:
         for name, length in (("whole", None), ("bytes", 1), ("sevens", 7)):
             with server.known(PRIMARY) as client:
                 calls = sixteen_calls(name)
@@ -94,14 +81,13 @@ def a_pipeline_in_single_bytes_is_answered_alike(checks: Checks) -> None:
 
 def a_fault_behind_ten_calls_comes_behind_their_answers(checks: Checks) -> None:
     """Ten calls, and in the same write bytes that are no message: the ten are answered, and then the connection ends."""
-    for server in servers():
-        with bystander(checks, server):
-            for what, fault in FAULTS.items():
-                calls = sixteen_calls(what)[:10]
-                with server.known(PRIMARY) as client:
-                    with suppress(Ended):  # the server may be done before all is sent
-                        client.send(*(call for call, _ in calls), fault)
-                    checks.equal(f"behind {what}", b"".join(answer for _, answer in calls), client.rest())
+    with Server() as server, bystander(checks, server):
+        for what, fault in FAULTS.items():
+            calls = sixteen_calls(what)[:10]
+            with server.known(PRIMARY) as client:
+                with suppress(Ended):  # the server may be done before all is sent
+                    client.send(*(call for call, _ in calls), fault)
+                checks.equal(f"behind {what}", b"".join(answer for _, answer in calls), client.rest())
 
 
 # Late.
@@ -115,18 +101,17 @@ MOST_KEPT = 8192
 def a_late_reader_has_all_answers_in_order(checks: Checks) -> None:
     """A client that has sent a thousand calls with sixteen megabytes of answers, and reads nothing for a while, costs the server
     little memory, and others nothing. Once it reads it has every answer, in the order of the calls."""
-    for server in servers():
-        with server.known(PRIMARY) as other, Client(server.port + PRIMARY, 16_384) as late:
-            late.authenticate(2)
-            late.put(LONG, LONG_VALUE)
-            before = server.resident_kb()
-            late.send(*(wire.get(number, LONG) for number in range(GETS)))
-            is_at_rest(checks, server, "with a client that doesn't read")
-            checks.equal("another client's put meanwhile", None, other.put(Key(8, "other"), b"value").value)
-            checks.at_most("kB more than before", MOST_KEPT, server.resident_kb() - before)
-            wrong = [number for number in range(GETS) if late.answer() != wire.valued(Kind.GET, number, LONG_VALUE)]
-            checks.equal("answers that aren't the next one", [], wrong[:3])
-            checks.equal("behind them", True, late.is_served())
+    with Server() as server, server.known(PRIMARY) as other, Client(server.port + PRIMARY, 16_384) as late:
+        late.authenticate(2)
+        late.put(LONG, LONG_VALUE)
+        before = server.resident_kb()
+        late.send(*(wire.get(number, LONG) for number in range(GETS)))
+        is_at_rest(checks, server, "with a client that doesn't read")
+        checks.equal("another client's put meanwhile", None, other.put(Key(8, "other"), b"value").value)
+        checks.at_most("kB more than before", MOST_KEPT, server.resident_kb() - before)
+        wrong = [number for number in range(GETS) if late.answer() != wire.valued(Kind.GET, number, LONG_VALUE)]
+        checks.equal("answers that aren't the next one", [], wrong[:3])
+        checks.equal("behind them", True, late.is_served())
 
 
 # Without end.
@@ -195,7 +180,7 @@ def seconds_of(client: Client, number: int) -> float:
 def an_endless_pipeline_leaves_others_their_turn(checks: Checks) -> None:
     """While one connection always has 256 calls and more under way, 99 of a hundred calls of another one, at the same member and in
     the same partition, are answered within two seconds each. Both go on."""
-    for server in servers():
+    with Server() as server:
         with server.known(PRIMARY) as other, Endless(server) as endless:
             before = endless.answered
             times = sorted(seconds_of(other, number) for number in range(SINGLE_CALLS))
@@ -229,18 +214,17 @@ def polled(client: Client, name: str) -> list[bytes]:
 def leaving_amid_a_pipeline_leaves_a_front_of_it(checks: Checks) -> None:
     """Clients close, or reset, in the middle of a pipeline of offers. What stands then is a front of what was offered, with all
     that was answered, and the connections are given back."""
-    for server in servers():
-        with bystander(checks, server) as other:
-            before = server.descriptors()
-            for heard in (0, 1, 16, 17, 100, ITEMS - 1):
-                for leave in (Client.close, Client.reset):
-                    name = f"{leave.__name__} behind {heard}"
-                    leave(offers(server, name, heard))
-                    gone = wait_until(lambda: server.descriptors() <= before)
-                    checks.holds(f"{name}, descriptors", gone, before, server.descriptors())
-                    items = polled(other, name)
-                    checks.equal(f"{name}, what stands", [b"%d" % number for number in range(len(items))], items)
-                    checks.at_least(f"{name}, how much", heard, len(items))
+    with Server() as server, bystander(checks, server) as other:
+        before = server.descriptors()
+        for heard in (0, 1, 16, 17, 100, ITEMS - 1):
+            for leave in (Client.close, Client.reset):
+                name = f"{leave.__name__} behind {heard}"
+                leave(offers(server, name, heard))
+                gone = wait_until(lambda: server.descriptors() <= before)
+                checks.holds(f"{name}, descriptors", gone, before, server.descriptors())
+                items = polled(other, name)
+                checks.equal(f"{name}, what stands", [b"%d" % number for number in range(len(items))], items)
+                checks.at_least(f"{name}, how much", heard, len(items))
 
 
 TESTS = (

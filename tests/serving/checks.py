@@ -4,6 +4,7 @@ from __future__ import annotations
 
 import time
 from collections.abc import Callable, Iterable
+from dataclasses import dataclass
 
 # How much of a value a line shows.
 MOST_SHOWN = 200
@@ -20,7 +21,7 @@ def shown(value: object) -> str:
 class Checks:
     """What was compared in a test, which has passed where nothing differed."""
 
-    def __init__(self, name: str, suite: str = "serve") -> None:
+    def __init__(self, name: str, suite: str) -> None:
         self.name = name
         self.suite = suite
         self.passed = 0
@@ -48,34 +49,44 @@ class Checks:
 Test = Callable[[Checks], None]
 
 
-def name_of(test: Test) -> str:
-    return test.__name__.replace("_", " ")
+@dataclass(frozen=True)
+class Turn:
+    """A test, and with how many loops its servers serve; None is the program's own number."""
+
+    test: Test
+    loops: int | None
+
+    def name(self) -> str:
+        name = self.test.__name__.replace("_", " ")
+        return name if self.loops is None else f"{name}, {self.loops} loops"
 
 
-def not_run(test: Test, suite: str) -> Checks:
+def not_run(turn: Turn, suite: str) -> Checks:
     """A test for which no time is left has failed."""
-    checks = Checks(name_of(test), suite)
+    checks = Checks(turn.name(), suite)
     checks.holds("its turn", False, f"within {LONGEST} seconds", "none")
     return checks
 
 
-def run_test(test: Test, suite: str) -> Checks:
+def run_turn(turn: Turn, suite: str) -> Checks:
     """Runs a test. A fault in it is a failure."""
-    checks = Checks(name_of(test), suite)
+    checks = Checks(turn.name(), suite)
     try:
-        test(checks)
+        turn.test(checks)
     except Exception as error:  # whatever went wrong is told, and the next test runs
         checks.holds("a fault", False, "none", f"{type(error).__name__}: {error}")
     return checks
 
 
-def run_tests(tests: Iterable[Test], *, told: bool, suite: str = "serve") -> bool:
-    """Runs the tests of a suite one after the other, and prints the counts. True where none failed."""
+def run_turns(turns: Iterable[Turn], *, begin: Callable[[int | None], None], told: bool, suite: str) -> bool:
+    """Runs the tests of a suite one after the other, each once its number of loops is begun with, and prints the counts. True where
+    none failed."""
     passed = failed = 0
-    begin = time.monotonic()
-    for test in tests:
+    first = time.monotonic()
+    for turn in turns:
         start = time.monotonic()
-        checks = run_test(test, suite) if start < begin + LONGEST else not_run(test, suite)
+        begin(turn.loops)
+        checks = run_turn(turn, suite) if start < first + LONGEST else not_run(turn, suite)
         passed += checks.passed
         failed += checks.failed
         if told:

@@ -124,6 +124,9 @@ def run_program(words: Sequence[str | bytes], script: bytes = b"", limits: Limit
 class Server:
     """A server that runs. Standard input is its console. It is killed at the end of its `with`, if it still runs then."""
 
+    # With how many loops a server serves where its test doesn't say. None is the program's own number.
+    loops: int | None = None
+
     def __init__(
         self,
         *,
@@ -134,11 +137,12 @@ class Server:
         stay: bool = True,
         limits: Limits | None = None,
     ) -> None:
-        """Starts a server with these options. Without a number of loops the program has its own."""
+        """Starts a server with these options."""
         self.members = members
         self.limits = limits
         self.options = ["--members", str(members), "--backups", str(backups), "--capacity", str(capacity)]
         self.options += ["--stay"] if stay else []
+        loops = loops or Server.loops
         self.options += ["--loops", str(loops)] if loops is not None else []
         self.start()
 
