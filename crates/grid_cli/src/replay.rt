@@ -127,7 +127,8 @@ impl Replay {
     fn finish<K: Sink>(&mut self, alloc: Global, out: &mut K) -> Status
         requires { (forms : List ProcessorForm) × (skips : List CallId) × (read written : List ℕ) × HasRead form forms self.old skips read written }
         ensures concludes { (forms : List ProcessorForm) (skips : List CallId) (read written : List ℕ) → HasRead form forms self.old skips read written
-            → (more : List CallId) × (added : List ℕ) × Concludes forms None result (more ++ skips) (whole_lines read ++ last_line (unfinished read)) (written ++ added)
+            → (more : List CallId) × (added : List ℕ)
+            × Concludes forms None result (more ++ skips) (whole_lines read ++ last_line (unfinished read)) (written ++ added)
             × (K.taken out.new ≡ K.taken out.old ++ added) }
         ensures never_falls { K.faults out.old ≤ K.faults out.new }
         ensures cause { result ≡ Status.WriteFault → Rose (K.faults out.old) (K.faults out.new) }

@@ -98,8 +98,10 @@ impl Transcriber {
 
     /// Runs a line and leaves its text.
     fn run(&mut self, alloc: Global, text: &[u8]) -> Result<Ran, Memory>
-        requires follows { (forms : List ProcessorForm) × (skips : List CallId) × (done : List (List ℕ)) × (written : List ℕ) × Follows form forms self.old.stage skips done written × HasRoomFor done text.now }
-        ensures { (forms : List ProcessorForm) (skips : List CallId) (done : List (List ℕ)) (written : List ℕ) → Follows form forms self.old.stage skips done written
+        requires follows { (forms : List ProcessorForm) × (skips : List CallId) × (done : List (List ℕ)) × (written : List ℕ)
+            × Follows form forms self.old.stage skips done written × HasRoomFor done text.now }
+        ensures { (forms : List ProcessorForm) (skips : List CallId) (done : List (List ℕ)) (written : List ℕ)
+            → Follows form forms self.old.stage skips done written
             → IfOk result (λ ran. RanAs form forms ran self.new.stage skips done text.now written self.new.text.items) }
     {
         self.text.clear();
@@ -117,7 +119,8 @@ impl Transcriber {
         text: &[u8],
     ) -> Result<Ran, Memory>
         requires empty { self.old.text.items ≡ [] }
-        ensures { (forms : List ProcessorForm) (skips : List CallId) (done : List (List ℕ)) (written : List ℕ) → Follows form forms (Stage.Waiting processors) skips done written
+        ensures { (forms : List ProcessorForm) (skips : List CallId) (done : List (List ℕ)) (written : List ℕ)
+            → Follows form forms (Stage.Waiting processors) skips done written
             → IfOk result (λ ran. RanAs form forms ran self.new.stage skips done text.now written self.new.text.items) }
     {
         match grid_of(alloc, processors, text, &mut self.text)? {
@@ -142,10 +145,12 @@ impl Transcriber {
     ) -> Result<Ran, Memory>
         requires empty { self.old.text.items ≡ [] }
         requires may { MayRun form grid number line.now }
-        ensures { (forms : List ProcessorForm) (skips : List CallId) (done : List (List ℕ)) (written : List ℕ) (follows : HasRun form forms grid skips done written) (text : List ℕ)
-            → line_of false follows.run.run.members text ≡ Okay line.now → IfOk result (λ ran. RanAs form forms ran self.new.stage skips done text written self.new.text.items) }
+        ensures { (forms : List ProcessorForm) (skips : List CallId) (done : List (List ℕ)) (written : List ℕ)
+            (follows : HasRun form forms grid skips done written) (text : List ℕ)
+            → line_of false follows.run.run.members text ≡ Okay line.now
+            → IfOk result (λ ran. RanAs form forms ran self.new.stage skips done text written self.new.text.items) }
     {
-        match grid.run_line(alloc, number, line, &mut self.text) {
+        match grid.print_line(alloc, number, line, &mut self.text) {
             Ok(()) => {
                 self.stage = Stage::Running(grid);
                 Ok(if line.is_end() { Ran::Ended } else { Ran::Goes })
@@ -163,8 +168,10 @@ impl Transcriber {
     fn go_on(&mut self, alloc: Global, grid: ScriptGrid, text: &[u8]) -> Result<Ran, Memory>
         requires empty { self.old.text.items ≡ [] }
         requires room { length text.now ≤ most_line_bytes }
-        requires stands { (forms : List ProcessorForm) × (capacity : ℕ) × (s : ScriptRun) × Stands form (settings forms capacity) grid s × (s.run.lines < most_lines) × (s.run.members ≤ 8) }
-        ensures { (forms : List ProcessorForm) (skips : List CallId) (done : List (List ℕ)) (written : List ℕ) → Follows form forms (Stage.Running grid) skips done written
+        requires stands { (forms : List ProcessorForm) × (capacity : ℕ) × (s : ScriptRun) × Stands form (settings forms capacity) grid s
+            × (s.run.lines < most_lines) × (s.run.members ≤ 8) }
+        ensures { (forms : List ProcessorForm) (skips : List CallId) (done : List (List ℕ)) (written : List ℕ)
+            → Follows form forms (Stage.Running grid) skips done written
             → IfOk result (λ ran. RanAs form forms ran self.new.stage skips done text.now written self.new.text.items) }
     {
         let number = grid.lines() + 1;
@@ -186,11 +193,15 @@ impl Transcriber {
         text: &[u8],
         out: &mut K,
     ) -> Result<(), Status>
-        requires follows { (forms : List ProcessorForm) × (skips : List CallId) × (done : List (List ℕ)) × (written : List ℕ) × Follows form forms self.old.stage skips done written × HasRoomFor done text.now }
-        ensures goes { (forms : List ProcessorForm) (skips : List CallId) (done : List (List ℕ)) (written : List ℕ) → Follows form forms self.old.stage skips done written
-            → OnOk result ((more : List CallId) × (added : List ℕ) × Follows form forms self.new.stage (more ++ skips) (done ++ text.now ∷ []) (written ++ added)
+        requires follows { (forms : List ProcessorForm) × (skips : List CallId) × (done : List (List ℕ)) × (written : List ℕ)
+            × Follows form forms self.old.stage skips done written × HasRoomFor done text.now }
+        ensures goes { (forms : List ProcessorForm) (skips : List CallId) (done : List (List ℕ)) (written : List ℕ)
+            → Follows form forms self.old.stage skips done written
+            → OnOk result ((more : List CallId) × (added : List ℕ)
+            × Follows form forms self.new.stage (more ++ skips) (done ++ text.now ∷ []) (written ++ added)
             × (K.taken out.new ≡ K.taken out.old ++ added)) }
-        ensures stops { (forms : List ProcessorForm) (skips : List CallId) (done : List (List ℕ)) (written : List ℕ) → Follows form forms self.old.stage skips done written
+        ensures stops { (forms : List ProcessorForm) (skips : List CallId) (done : List (List ℕ)) (written : List ℕ)
+            → Follows form forms self.old.stage skips done written
             → IfErr result (λ status. (more : List CallId) × (added : List ℕ) × StopsAs forms status (more ++ skips) done text.now (written ++ added)
             × (K.taken out.new ≡ K.taken out.old ++ added)) }
         ensures never_falls { K.faults out.old ≤ K.faults out.new }
@@ -214,7 +225,8 @@ impl Transcriber {
 
     /// How many lines were run.
     pub(crate) fn lines(&self) -> u32
-        ensures { (forms : List ProcessorForm) (skips : List CallId) (done : List (List ℕ)) (written : List ℕ) → Follows form forms self.now.stage skips done written → result ≡ length done }
+        ensures { (forms : List ProcessorForm) (skips : List CallId) (done : List (List ℕ)) (written : List ℕ)
+            → Follows form forms self.now.stage skips done written → result ≡ length done }
     {
         match &self.stage {
             Stage::Waiting(_) => 0,
@@ -224,7 +236,8 @@ impl Transcriber {
 
     /// Ends a script that stopped without a line `end`.
     pub(crate) fn refuse_end<K: Sink>(&mut self, out: &mut K) -> Status
-        ensures concludes { (forms : List ProcessorForm) (skips : List CallId) (done : List (List ℕ)) (written : List ℕ) → Follows form forms self.old.stage skips done written
+        ensures concludes { (forms : List ProcessorForm) (skips : List CallId) (done : List (List ℕ)) (written : List ℕ)
+            → Follows form forms self.old.stage skips done written
             → (added : List ℕ) × Concludes forms None result skips done (written ++ added) × (K.taken out.new ≡ K.taken out.old ++ added) }
         ensures never_falls { K.faults out.old ≤ K.faults out.new }
         ensures cause { result ≡ Status.WriteFault → Rose (K.faults out.old) (K.faults out.new) }
@@ -245,8 +258,10 @@ impl Transcriber {
 
     /// Ends a script that goes past a limit in the line after those that were run.
     pub(crate) fn stop_at_limit<K: Sink>(&mut self, what: LimitWhat, out: &mut K) -> Status
-        requires { (forms : List ProcessorForm) × (skips : List CallId) × (done : List (List ℕ)) × (written : List ℕ) × Follows form forms self.old.stage skips done written × (length done ≤ most_lines) }
-        ensures concludes { (forms : List ProcessorForm) (skips : List CallId) (done : List (List ℕ)) (written : List ℕ) → Follows form forms self.old.stage skips done written
+        requires { (forms : List ProcessorForm) × (skips : List CallId) × (done : List (List ℕ)) × (written : List ℕ)
+            × Follows form forms self.old.stage skips done written × (length done ≤ most_lines) }
+        ensures concludes { (forms : List ProcessorForm) (skips : List CallId) (done : List (List ℕ)) (written : List ℕ)
+            → Follows form forms self.old.stage skips done written
             → (added : List ℕ) × Concludes forms (Some what) result skips done (written ++ added) × (K.taken out.new ≡ K.taken out.old ++ added) }
         ensures never_falls { K.faults out.old ≤ K.faults out.new }
         ensures cause { result ≡ Status.WriteFault → Rose (K.faults out.old) (K.faults out.new) }

@@ -37,6 +37,7 @@ use Rattle.masters_run.specs.LineTold.{event_outcome, said, asked_outcome, follo
 use Rattle.masters_run.specs.Grids.{Stands, HasRun}
 use Rattle.masters_run.specs.Parts.{is_later, is_held_back}
 use Rattle.masters_run.proofs.AtOnce.{as_event, asks_by_proposals, goes_at_once, followed_at_once, says_at_once}
+use Rattle.masters_run.proofs.KeptLines.{comment_after}
 use Rattle.masters_run.proofs.LineParts.{with_masters, told_with_masters, without_masters, told_without_masters, counted_amid, stands_then}
 use Rattle.masters_run.proofs.RuleLemmas.{opening_rules}
 
@@ -95,6 +96,12 @@ module _ (settings : Settings) (s : RuledRun) (whole : length s.masters ≡ part
   passes line held nothing read = held_event line (event_by line) refl held nothing read
 
 module _ {V : Type 0} {T : V → Type 0} {form : FormOf V T} {settings : Settings} (all new : RuledGrid V T) (s : RuledRun) (stands : Stands form settings all s) (limit : s.run.lines + 1 ≤ most_lines) where
+  -- A line was counted at which nothing happens.
+  pub counts : new.masters ≡ all.masters → amid.IsAmid form settings new.grid (next_line s.run) → Stands form settings new (after_line (partition_object settings) [] s ScriptLines.Comment)
+  counts kept now =
+      subst (Stands form settings new) (sym (comment_after (partition_object settings) [] s))
+      (stands_then all s stands limit new (counted s) 0 0 (few_none (next_line s.run)) (omega arith) (omega arith) (counted_amid all s stands new kept now))
+
   -- The line was counted, and nothing else.
   pub passed : (line : ScriptLine) → has_masters s ≡ true → PassesBy settings s line → new.masters ≡ all.masters → amid.IsAmid form settings new.grid (next_line s.run) → (earlier later : List Told) → later ≡ earlier ++ came_to Idle
       → HasRun form settings new s line earlier later

@@ -15,14 +15,12 @@ use Rattle.masters_world.specs.Decisions.{Decision, event_of}
 use Rattle.masters_world.specs.Machine.{Ruled, Line, Asks, Told as ToldOf, asked_by, masters_say, at_once, published_by}
 use Rattle.script_lang.specs.declared.line.Line.{Line as ScriptLine}
 use Rattle.script_lang.specs.declared.line.Line.TheVariants as line
-use Rattle.line_told.specs.Printing.{outcome_text, published_text as number_text, text_of, ready_text}
+use Rattle.line_told.specs.Printing.{outcome_text, published_text as number_text, text_of}
 use Rattle.line_told.specs.Words.{words_line}
 use Rattle.line_told.specs.declared.told.LineOutcome.TheVariants as outcome
-use Rattle.line_told.specs.declared.told.Ready.{Ready}
 use Rattle.line_told.specs.declared.told.Told.{Told}
 use Rattle.line_told.proofs.ToldHappenings.{same_master_words}
 use Rattle.replay_run.specs.Appending.{new_messages}
-use Rattle.replay_run.specs.Grids.{FormOf}
 use Rattle.replay_run.specs.LineTold.{came_to, all_told}
 use Rattle.replay_run.specs.LineTold as alone
 use Rattle.replay_run.specs.Printing.{deliveries}
@@ -34,11 +32,8 @@ use Rattle.replay_run.proofs.PrintedLines.{text_append, messages_text, one_text,
 use Rattle.replay_run.proofs.PrintedLines as alone_prints
 use Rattle.replay_run.proofs.Bounds as bounds
 use Rattle.replay_run.proofs.EventRuns.{takes_kept}
-use Rattle.masters_run.specs.declared.grid.RuledGrid.{RuledGrid}
 use Rattle.masters_run.specs.Runs.{RuledRun, has_masters, masters_at, ruled_at, goes, link_between, handing_over, counted}
 use Rattle.masters_run.specs.AfterLines.{Asked, asked_at, by_grid, by_partition, unruled, ruled_line, after_line}
-use Rattle.masters_run.specs.AsText as text
-use Rattle.masters_run.specs.Grids.{HasGiven}
 use Rattle.masters_run.specs.LineTold as told
 use Rattle.masters_run.specs.Printing as printed
 use Rattle.masters_run.specs.Printing.{handed_over}
@@ -212,18 +207,3 @@ module _ (settings : Settings) (skips : List CallId) (s : RuledRun) (n : ℕ) (a
           ≡ cond b (printed.ruled_text settings skips s line (after_by line b)) (printed.unruled_text settings skips s line (after_by line b))
       go true ruled counts = ruled_is ruled line counts
       go false none counts = unruled_is line counts
-
--- What ran is printed as the line's text.
-pub printed_line : {V : Type 0} {T : V → Type 0} {form : FormOf V T} {settings : Settings} {new : RuledGrid V T} {s : RuledRun} {line : ScriptLine} (number : ℕ) (start ready : Ready) (written later : List ℕ) → start.told.items ≡ [] → start.printed.items ≡ []
-    → HasGiven form settings new s line start ready → number ≡ s.run.lines + 1 → later ≡ written ++ ready_text number ready → text.HasRun form settings new s line written later
-printed_line {settings = settings} {s = s} {line = line} number start ready written later none blank given at_line is =
-    let ran = given.told in
-    let next = after_line (partition_object settings) ran.skips s line in
-    let tells : ready.told.items ≡ told.line_told settings ran.skips s line next = ran.added ∙ ap (λ xs. xs ++ told.line_told settings ran.skips s line next) none in
-    let writes : ready.printed.items ≡ told.line_printed settings s line = given.printed ∙ ap (λ xs. xs ++ told.line_printed settings s line) blank in
-    record {
-      skips = ran.skips;
-      of_line = ran.of_line;
-      stands = ran.stands;
-      added = is ∙ (λ i. written ++ (text_of number (tells i) ++ writes i)) ∙ ap (λ xs. written ++ xs) (line_is settings ran.skips s number (sym at_line) line);
-    }

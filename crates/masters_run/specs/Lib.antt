@@ -8,7 +8,6 @@ pub mod Examples
 pub mod Written
 pub mod Answers
 pub mod Grids
-pub mod AsText
 pub mod Steps
 pub mod Parts
 pub mod ByMachine

@@ -16,6 +16,7 @@ ghost use Rattle.replay_run.specs.declared.run_end.RunEnd.{RunEnd as RunEndOf};
 ghost use Rattle.replay_run.specs.declared.run_end.RunEnd.TheVariants as RunEnds;
 ghost use Rattle.script_lang.specs.declared.line.Line.TheVariants as ScriptLines;
 ghost use Rattle.masters_run.specs.Runs.{RuledRun, begun, ruled_at};
+ghost use Rattle.masters_run.specs.AfterLines.{after_line};
 ghost use Rattle.masters_run.specs.Grids.{Stands, MayRun, HasMasters, Runs, Gives, GivesUpIfFull};
 ghost use Rattle.masters_run.specs.Parts.{MayBeNext, HasNoMasters, ProposesNothing, IsProposalOf, is_held_back, GoesOn, is_of_masters, HaveCrashed};
 ghost use Rattle.masters_run.specs.Written.{as_written};
@@ -354,6 +355,15 @@ impl RuledGrid {
         for masters in self.masters.iter_mut() {
             masters.crash(member);
         }
+    }
+
+    /// Counts the line of that number, which is the next one and at which nothing happens here. Takes no memory.
+    pub fn count_line(&mut self, number: u32)
+        requires { MayRun (boxed form) self.old number ScriptLines.Comment }
+        ensures { (settings : Settings) (s : RuledRun) → Stands (boxed form) settings self.old s
+            → Stands (boxed form) settings self.new (after_line (partition_object settings) [] s ScriptLines.Comment) }
+    {
+        self.count(number);
     }
 
     /// Counts a line, whose events are then taken one by one. Takes no memory.

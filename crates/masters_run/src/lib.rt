@@ -8,7 +8,6 @@
 //! The run of such a grid is a run of the grid (`specs/`), so all that holds of runs holds of these.
 #![tactic(auto)]
 
-mod as_text;
 mod decisions;
 mod flows;
 mod grid;

@@ -42,7 +42,8 @@ impl RunningGrid {
         requires some { 1 ≤ members }
         requires most { members ≤ 8 }
         ensures stands { IfOk result (λ running. IsRunning form running) }
-        ensures run { IfOk result (λ running. StandsFor form (record { forms = map form processors.items; capacity = capacity }) running (begun members backups)) }
+        ensures run { IfOk result (λ running.
+            StandsFor form (record { forms = map form processors.items; capacity = capacity }) running (begun members backups)) }
     {
         let grid = ScriptGrid::new(alloc, members, backups, capacity, processors)?;
         Ok(RunningGrid {
@@ -86,8 +87,10 @@ impl RunningGrid {
         requires stands { IsRunning (boxed form) self.old }
         ensures same { self.new.members ≡ self.old.members }
         ensures stands { IsRunning (boxed form) self.new }
-        ensures ran { (settings : Settings) (s : ScriptRun) → StandsFor (boxed form) settings self.old s → IfOk result (λ text. RanLine (boxed form) settings self.new s line.now text.items) }
-        ensures full { (settings : Settings) (s : ScriptRun) → StandsFor (boxed form) settings self.old s → IsErrOf result RunEnd.InFlight → IsGivenUp settings s line.now }
+        ensures ran { (settings : Settings) (s : ScriptRun) → StandsFor (boxed form) settings self.old s
+            → IfOk result (λ text. RanLine (boxed form) settings self.new s line.now text.items) }
+        ensures full { (settings : Settings) (s : ScriptRun) → StandsFor (boxed form) settings self.old s → IsErrOf result RunEnd.InFlight
+            → IsGivenUp settings s line.now }
     {
         let Some(mut grid) = self.grid.take() else {
             return Err(RunEnd::Memory);
@@ -97,7 +100,7 @@ impl RunningGrid {
         }
         let number = grid.lines() + 1;
         let mut text = Vec::new(alloc);
-        grid.run_line(alloc, number, line, &mut text)?;
+        grid.print_line(alloc, number, line, &mut text)?;
         self.grid = Some(grid);
         Ok(text)
     }

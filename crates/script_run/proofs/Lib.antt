@@ -1,7 +1,6 @@
-pub mod Digits
 pub mod FedClients
 pub mod Handed
-pub mod LineReadings
+pub mod LineMessages
 pub mod LookUps
 pub mod MastersLaws
 pub mod NearLines
@@ -9,10 +8,10 @@ pub mod Nears
 pub mod OneConnection
 pub mod Places
 pub mod Playing
-pub mod ReadBack
 pub mod RightDecisions
-pub mod RuledReadings
+pub mod RuledMessages
 pub mod ScriptLaws
 pub mod Sending
 pub mod Sizes
 pub mod Spoken
+pub mod ToldTexts

@@ -9,7 +9,6 @@ use Rattle.script_run.specs.declared.client.NearClient.{NearClient as KeptClient
 use Rattle.script_run.specs.AfterLines.{noting}
 use Rattle.script_run.specs.NearClients.{NearClient, is_near}
 use Rattle.script_run.specs.Outputs.{sent_to}
-use Rattle.script_run.specs.Reading.{beginning, lines_in, Adds, Tells}
 use Rattle.script_run.specs.Grids.{IsNear, AreNear, is_kept}
 use Rattle.script_run.proofs.Places.{IsFirst, first_placed, found_at, found_placed, none_placed, set_placed}
 
@@ -123,12 +122,9 @@ noted_all messages zero (k ∷ ks) (n ∷ ns) are past = absurd (omega (arith, p
 noted_all messages (suc i) (k ∷ ks) (n ∷ ns) are past = (are.0, noted_all messages i ks ns are.1 (omega (arith, past)))
 
 -- one of them
-pub noted_one : (messages : List Appended) (text : List ℕ) (k new : KeptClient) (n : NearClient) → Tells text messages → IsNear k n
-    → Adds (beginning k.conn) (lines_in text) k.output.items new.output.items → (record new { output = k.output }) ≡ k → IsNear new (noting messages n)
-noted_one messages text k new n tells is adds rest =
-    let within : k.conn ≤ 63 = let at = is.conn in let few = is.within in omega (arith, at, few) in
+pub noted_one : (messages : List Appended) (k new : KeptClient) (n : NearClient) → IsNear k n → new.output.items ≡ k.output.items ++ sent_to k.conn messages → (record new { output = k.output }) ≡ k → IsNear new (noting messages n)
+noted_one messages k new n is all rest =
     let sent : List ℕ = sent_to k.conn messages in
-    let all : new.output.items ≡ k.output.items ++ sent = tells k.conn k.output.items new.output.items within adds in
     let same : new.handed ≡ k.handed = ap (λ (x : KeptClient). x.handed) rest in
     record {
       conn = ap (λ (x : KeptClient). x.conn) rest ∙ is.conn;

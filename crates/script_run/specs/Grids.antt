@@ -11,17 +11,23 @@ use Rattle.script_lang.specs.Limits.{most_lines, most_line_bytes}
 use Rattle.script_lang.specs.Lines.{IsWithin}
 use Rattle.script_lang.specs.declared.line.Line.{Line}
 use Rattle.script_lang.specs.declared.line.Line.TheVariants.{Arrive, Comment}
+use Rattle.line_told.specs.declared.told.LineOutcome.{LineOutcome}
+use Rattle.line_told.specs.declared.told.Ready.{Ready}
+use Rattle.replay_run.specs.LineTold.{came_to}
 use Rattle.replay_run.specs.Runs.{Run, Connection, connection_of}
 use Rattle.replay_run.specs.Grids.{FormOf, most_arriving}
-use Rattle.masters_run.specs.Printing as ruled_text
+use Rattle.masters_run.specs.LineTold as ruled_told
 use Rattle.masters_run.specs.Grids as ruled
 use Rattle.masters_run.specs.Grids.{AreOfLine}
 use Rattle.script_run.specs.declared.client.NearClient.{NearClient as KeptClient}
 use Rattle.script_run.specs.declared.grid.ScriptGrid.{ScriptGrid}
+use Rattle.script_run.specs.declared.told.NearOutcome.TheVariants as near
+use Rattle.script_run.specs.declared.told.ScriptTold.{ScriptTold}
 use Rattle.script_run.specs.NearClients.{NearClient}
 use Rattle.script_run.specs.Runs.{ScriptRun, ruled_of, grid_line, is_silent}
 use Rattle.script_run.specs.AfterLines.{played, after_line}
-use Rattle.script_run.specs.Printing.{line_text, brought}
+use Rattle.script_run.specs.LineTold.{told_of, by_near, brought, line_told}
+use Rattle.script_run.specs.Printing.{line_text}
 
 -- The client has one connection, on which it has heard these bytes, and a near cache whose map's name came on a line.
 pub record IsOnOne (c : ℕ) (text : List ℕ) (s : State) : Type 0 where
@@ -78,7 +84,14 @@ pub record MayRun {V : Type 0} {T : V → Type 0} (form : FormOf V T) (all : Scr
   pub next : number ≡ run.run.lines + 1
   pub within : number ≤ most_lines
 
--- The line ran: the grid and the near clients stand for the run after it, and its text was added. Its calls were skipped that found no memory.
+-- The line ran: the grid and the near clients stand for the run after it, and this was told. Its calls were skipped that found no memory.
+pub record HasTold {V : Type 0} {T : V → Type 0} (form : FormOf V T) (settings : Settings) (new : ScriptGrid V T) (s : ScriptRun) (line : Line) (told : ScriptTold) : Type 0 where
+  pub skips : List CallId
+  pub of_line : AreOfLine settings (ruled_of s) (grid_line (partition_object settings) s line) skips
+  pub stands : Stands form settings new (after_line settings skips s line)
+  pub tells : told_of told ≡ line_told settings skips s line (after_line settings skips s line)
+
+-- It ran, and its text was added.
 pub record HasRun {V : Type 0} {T : V → Type 0} (form : FormOf V T) (settings : Settings) (new : ScriptGrid V T) (s : ScriptRun) (line : Line) (written text : List ℕ) : Type 0 where
   pub skips : List CallId
   pub of_line : AreOfLine settings (ruled_of s) (grid_line (partition_object settings) s line) skips
@@ -102,12 +115,13 @@ pub record MayPlay {V : Type 0} {T : V → Type 0} (form : FormOf V T) (all : Sc
   pub next : number ≡ run.run.lines + 1
   pub within : number ≤ most_lines
 
--- The grid ran it, and the near clients have its output to read.
-pub record HasPlayed {V : Type 0} {T : V → Type 0} (form : FormOf V T) (settings : Settings) (new : ScriptGrid V T) (s : ScriptRun) (line : Line) (written text : List ℕ) : Type 0 where
+-- The grid ran it and told this, and the near clients have its output to read.
+pub record HasPlayed {V : Type 0} {T : V → Type 0} (form : FormOf V T) (settings : Settings) (new : ScriptGrid V T) (s : ScriptRun) (line : Line) (ready : Ready) : Type 0 where
   pub skips : List CallId
   pub of_line : AreOfLine settings (ruled_of s) line skips
   pub goes : Goes form settings new (played settings skips s line)
-  pub added : text ≡ written ++ ruled_text.line_text settings skips (ruled_of s) line (ruled_of (played settings skips s line))
+  pub told : ready.told.items ≡ ruled_told.line_told settings skips (ruled_of s) line (ruled_of (played settings skips s line))
+  pub printed : ready.printed.items ≡ ruled_told.line_printed settings (ruled_of s) line
 
 -- The run was given up at it.
 pub record IsGivenUpAt (settings : Settings) (s : ScriptRun) (line : Line) : Type 0 where
@@ -115,17 +129,21 @@ pub record IsGivenUpAt (settings : Settings) (s : ScriptRun) (line : Line) : Typ
   pub of_line : AreOfLine settings (ruled_of s) line skips
   pub full : (played settings skips s line).run.full ≡ true
 
--- A line at which nothing happens on the grid was counted, and this text was added.
-pub record HasCounted {V : Type 0} {T : V → Type 0} (form : FormOf V T) (settings : Settings) (new : ScriptGrid V T) (s : ScriptRun) (added written text : List ℕ) : Type 0 where
-  pub goes : Goes form settings new (played settings [] s Comment)
-  pub is : text ≡ written ++ added
-
--- What a near client sends arrived on its connection, and what that brings was added.
-pub record HasSent {V : Type 0} {T : V → Type 0} (form : FormOf V T) (settings : Settings) (new : ScriptGrid V T) (s : ScriptRun) (c : ℕ) (bytes written text : List ℕ) : Type 0 where
+-- What a near client sends arrived on its connection: this was told, an outcome and behind it what that brings.
+pub record HasSent {V : Type 0} {T : V → Type 0} (form : FormOf V T) (settings : Settings) (new : ScriptGrid V T) (s : ScriptRun) (c : ℕ) (bytes : List ℕ) (ready : Ready) : Type 0 where
   pub skips : List CallId
   pub of_line : AreOfLine settings (ruled_of s) (Arrive c bytes) skips
   pub stands : Stands form settings new (played settings skips s (Arrive c bytes))
-  pub added : text ≡ written ++ brought settings skips s.run c bytes (played settings skips s (Arrive c bytes)).run
+  pub came : LineOutcome
+  pub told : ready.told.items ≡ came_to came ++ brought settings skips s.run c bytes (played settings skips s (Arrive c bytes)).run
+  pub printed : ready.printed.items ≡ []
+
+-- They were the get of a look-up that missed: this is told.
+pub record HasMissed {V : Type 0} {T : V → Type 0} (form : FormOf V T) (settings : Settings) (new : ScriptGrid V T) (s : ScriptRun) (c : ℕ) (get : List ℕ) (told : ScriptTold) : Type 0 where
+  pub skips : List CallId
+  pub of_line : AreOfLine settings (ruled_of s) (Arrive c get) skips
+  pub stands : Stands form settings new (played settings skips s (Arrive c get))
+  pub tells : told_of told ≡ by_near near.Miss [] (brought settings skips s.run c get (played settings skips s (Arrive c get)).run)
 
 -- A near client may send these bytes.
 pub record MaySend {V : Type 0} {T : V → Type 0} (form : FormOf V T) (all : ScriptGrid V T) (number c : ℕ) (bytes : List ℕ) : Type 0 where

@@ -1,9 +1,9 @@
 pub mod AfterLines
 pub mod Grids
 pub mod Laws
+pub mod LineTold
 pub mod Masters
 pub mod NearClients
 pub mod Outputs
 pub mod Printing
-pub mod Reading
 pub mod Runs

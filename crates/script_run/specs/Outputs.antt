@@ -1,10 +1,9 @@
 -- The output of a connection: what is appended to it.
-use Rattle.std.specs.Prelude.{ℕ, ◌==◌, Bool, true, not, if◌then◌else◌, List, []}
+use Rattle.std.specs.Prelude.{ℕ, ◌==◌, if◌then◌else◌, List, [], ◌∷◌}
 use Rattle.std.specs.List.{flat_map}
-use Rattle.script_lang.specs.declared.line.Line.{Line}
-use Rattle.script_lang.specs.declared.line.Line.TheVariants.{Told, MasterDeliver, MasterFlow}
+use Rattle.line_told.specs.declared.told.Told.{Told}
+use Rattle.line_told.specs.declared.told.Told.TheVariants as told
 use Rattle.replay_run.specs.Runs.{Appended}
-use Rattle.replay_run.specs.WorldCalls.{is_quiet}
 
 -- what a message is to a connection: its bytes, or nothing
 abbrev pub bytes_to : ℕ → Appended → List ℕ
@@ -14,9 +13,10 @@ bytes_to c m = if m.conn == c then m.bytes else []
 abbrev pub sent_to : ℕ → List Appended → List ℕ
 sent_to c messages = flat_map (bytes_to c) messages
 
--- whether a line may append messages: something may happen in a partition at it, be it as a decision is published
-abbrev pub appends : Line → Bool
-appends (Told member crashed) = true
-appends (MasterDeliver p from to place) = true
-appends (MasterFlow p most) = true
-appends line = not (is_quiet line)
+-- the messages among what was told
+abbrev pub message_in : Told → List Appended
+message_in (told.Message m) = m ∷ []
+message_in told = []
+
+abbrev pub messages_in : List Told → List Appended
+messages_in all = flat_map message_in all

@@ -10,10 +10,14 @@ use Rattle.grid_client.specs.declared.heard.Heard.TheVariants as heard
 use Rattle.grid_client.specs.Nears.{Value}
 use Rattle.script_lang.specs.declared.line.Line.{Line}
 use Rattle.script_lang.specs.declared.line.Line.TheVariants.{Arrive, Near, NearGet, NearFeed}
+use Rattle.line_told.specs.Printing.{text_of}
 use Rattle.replay_run.specs.Dumps.{number, value_text}
 use Rattle.replay_run.specs.Runs.{Run}
 use Rattle.replay_run.specs.Printing.{ok_text, nothing_text, words_line, does_nothing, line_messages, line_close}
 use Rattle.masters_run.specs.Printing as ruled
+use Rattle.script_run.specs.declared.told.NearOutcome.{NearOutcome}
+use Rattle.script_run.specs.declared.told.NearOutcome.TheVariants as near
+use Rattle.script_run.specs.LineTold.{LineTold}
 use Rattle.script_run.specs.NearClients.{NearClient, opening_of, get_sent, piece, told}
 use Rattle.script_run.specs.Runs.{ScriptRun, ruled_of, Look, Unmade, Hit, Miss, near_of, is_near_connection, can_begin, look}
 
@@ -28,11 +32,14 @@ brought settings skips before c bytes after =
 abbrev pub hit_text : ℕ → Value → List ℕ
 hit_text line value = words_line line (codes "hit " ++ value_text value)
 
+abbrev pub miss_text : ℕ → List ℕ
+miss_text line = words_line line (codes "miss")
+
 -- A miss prints what its get brings.
 abbrev pub look_text : Settings → List CallId → Run → ℕ → List ℕ → Run → Look → List ℕ
 look_text settings skips before c key after Unmade = nothing_text after.lines
 look_text settings skips before c key after (Hit n value) = hit_text after.lines value
-look_text settings skips before c key after (Miss n) = words_line after.lines (codes "miss") ++ brought settings skips before c (get_sent n key).request after
+look_text settings skips before c key after (Miss n) = miss_text after.lines ++ brought settings skips before c (get_sent n key).request after
 
 -- What a client makes of a message, each on a line of its own; of one that answers no look-up nothing is said.
 abbrev pub heard_text : ℕ → Heard → List ℕ
@@ -43,10 +50,17 @@ heard_text line heard.Invalidated = words_line line (codes "invalidated")
 heard_text line (heard.Cleared partition) = words_line line (codes "cleared " ++ decimal partition)
 heard_text line (heard.Refused correlation code) = words_line line (codes "refused " ++ signed_decimal code)
 
--- `I fed N`, and what the client makes of the messages that these bytes complete
+abbrev pub all_heard_text : ℕ → List Heard → List ℕ
+all_heard_text line heard = flat_map (heard_text line) heard
+
+-- `I fed N`
+abbrev pub handed_text : ℕ → ℕ → List ℕ
+handed_text line bytes = words_line line (codes "fed " ++ decimal bytes)
+
+-- and what the client makes of the messages that these bytes complete
 abbrev pub fed_text : ℕ → ℕ → Option NearClient → List ℕ
 fed_text line most None = nothing_text line
-fed_text line most (Some n) = words_line line (codes "fed " ++ decimal (length (piece most n))) ++ flat_map (heard_text line) (told most n).heard
+fed_text line most (Some n) = handed_text line (length (piece most n)) ++ all_heard_text line (told most n).heard
 
 -- The text of a line at which these calls found no memory.
 abbrev pub line_text : Settings → List CallId → ScriptRun → Line → ScriptRun → List ℕ
@@ -55,3 +69,15 @@ line_text settings skips s (NearGet c key) next = look_text settings skips s.run
 line_text settings skips s (NearFeed c most) next = fed_text next.run.lines most (near_of s c)
 line_text settings skips s (Arrive c bytes) next = if is_near_connection s c then nothing_text next.run.lines else ruled.line_text settings skips (ruled_of s) (Arrive c bytes) (ruled_of next)
 line_text settings skips s line next = ruled.line_text settings skips (ruled_of s) line (ruled_of next)
+
+-- the law of what is told
+
+abbrev pub near_text : ℕ → Option NearOutcome → List ℕ
+near_text line None = []
+near_text line (Some (near.Hit value)) = hit_text line value
+near_text line (Some near.Miss) = miss_text line
+near_text line (Some (near.Fed bytes)) = handed_text line bytes
+
+-- It is printed in its order.
+abbrev pub told_text : ℕ → LineTold → List ℕ
+told_text line it = near_text line it.near ++ all_heard_text line it.heard ++ (text_of line it.grid ++ it.printed)

@@ -6,12 +6,11 @@ ghost use Rattle.script_lang.specs.Limits.{most_line_bytes};
 ghost use Rattle.script_run.specs.NearClients.{NearClient as NearClientOf, opening_of, new_near, told, fed, piece};
 ghost use Rattle.script_run.specs.Grids.{IsNear, AreNear};
 ghost use Rattle.script_run.specs.AfterLines.{noting};
-ghost use Rattle.replay_run.specs.Runs.{Appended};
-ghost use Rattle.script_run.specs.Reading.{beginning, lines_in, Adds, Tells};
+ghost use Rattle.script_run.specs.Outputs.{sent_to, message_in, messages_in};
 
-use crate::outputs::{beginning, push_sent};
 use grid_base::{Bytes, Memory};
 use grid_client::{FedClient, GridClient, Heard, NearLook};
+use line_told::Told;
 use std::alloc::{AllocError, Global};
 
 /// The number of the client of connection 0; that of connection C is C more.
@@ -56,13 +55,28 @@ fn attached(
 }
 
 impl NearClient {
-    /// What a line's text says was appended to the connection is yet to be read.
-    pub(crate) fn note(&mut self, alloc: Global, text: &[u8]) -> Result<(), Memory>
-        ensures output { OnOk result (Adds (beginning self.old.conn) (lines_in text.now) self.old.output.items self.new.output.items) }
+    /// A message that was told is yet to be read, if it was appended to the connection.
+    fn note_one(&mut self, told: &Told) -> Result<(), Memory>
+        ensures output { OnOk result (self.new.output.items ≡ self.old.output.items ++ sent_to self.old.conn (message_in told.now)) }
         ensures rest { (record self.new { output = self.old.output }) ≡ self.old }
     {
-        let begins = beginning(alloc, self.conn)?;
-        push_sent(alloc, begins.as_slice(), text, &mut self.output)
+        match told {
+            Told::Message(message) if message.conn == self.conn => {
+                Ok(self.output.extend_from_slice(message.bytes.as_slice())?)
+            }
+            _ => Ok(()),
+        }
+    }
+
+    /// What a line told was appended to the connection is yet to be read.
+    pub(crate) fn note(&mut self, told: &[Told]) -> Result<(), Memory>
+        ensures output { OnOk result (self.new.output.items ≡ self.old.output.items ++ sent_to self.old.conn (messages_in told.now)) }
+        ensures rest { (record self.new { output = self.old.output }) ≡ self.old }
+    {
+        for one in told {
+            self.note_one(one)?;
+        }
+        Ok(())
     }
 
     /// The client looks a key up. After an error it is to be given up.
@@ -110,16 +124,12 @@ impl NearClient {
     }
 }
 
-/// What a line's text says was appended to near connections is yet to be read there.
-pub(crate) fn note_all(
-    nears: &mut Vec<NearClient>,
-    alloc: Global,
-    text: &[u8],
-) -> Result<(), Memory>
-    ensures { (all : List NearClientOf) (messages : List Appended) → AreNear nears.old.items all → Tells text.now messages → OnOk result (AreNear nears.new.items (map (noting messages) all)) }
+/// What a line told was appended to near connections is yet to be read there.
+pub(crate) fn note_all(nears: &mut Vec<NearClient>, told: &[Told]) -> Result<(), Memory>
+    ensures { (all : List NearClientOf) → AreNear nears.old.items all → OnOk result (AreNear nears.new.items (map (noting (messages_in told.now)) all)) }
 {
     for near in nears.iter_mut() {
-        near.note(alloc, text)?;
+        near.note(told)?;
     }
     Ok(())
 }
@@ -135,7 +145,8 @@ pub(crate) fn begin(
     requires within { conn ≤ 63 }
     requires some { 1 ≤ capacity }
     requires short { 2 * length name.now ≤ most_line_bytes }
-    ensures nears { (all : List NearClientOf) → AreNear nears.old.items all → OnOk result (AreNear nears.new.items (all ++ new_near conn name.now capacity ∷ [])) }
+    ensures nears { (all : List NearClientOf) → AreNear nears.old.items all
+        → OnOk result (AreNear nears.new.items (all ++ new_near conn name.now capacity ∷ [])) }
     ensures opening { IfOk result (λ opening. opening ≡ opening_of conn name.now) }
 {
     let (client, opening) = attached(alloc, conn, name.copied(alloc)?, capacity)?;

@@ -1,6 +1,7 @@
 //! What holds of every run of a script's lines. Nothing runs here.
 
-ghost use Rattle.script_run.specs.Laws.{EveryRunIsTheGrids, EveryRunIsLinearizable, EverySkippedCallIsTold, EveryRunThatTellsOfNoSkipHasNone, EveryCallCountsOnce};
+ghost use Rattle.script_run.specs.Laws.{EveryRunIsTheGrids, EveryRunIsLinearizable, EveryCallCountsOnce};
+ghost use Rattle.script_run.specs.Laws.{EverySkippedCallIsTold, EveryRunThatTellsOfNoSkipHasNone};
 ghost use Rattle.script_run.specs.Masters.{EveryRunIsRuled, EveryServiceServesAsPublished, EveryPublishedListGrows};
 
 /// What the near clients of a script do is, to the grid, bytes that arrive on their connections.

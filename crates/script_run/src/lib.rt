@@ -1,5 +1,5 @@
-//! A script, line by line: what each line does to a grid and to the near clients of its connections, and the text that it
-//! prints.
+//! A script, line by line: what each line does to a grid and to the near clients of its connections, and what it tells, as
+//! data or as text.
 //!
 //! A near client is a client like any other. What it sends arrives on its connection, and what it reads is what is
 //! appended there. So a line of a near client is, to the grid, a line of bytes or none at all (`grid_line` in
@@ -11,8 +11,8 @@ mod grid;
 mod laws;
 mod looking;
 mod near_lines;
-mod outputs;
 mod print;
+mod told;
 
 pub use grid::ScriptGrid;
 pub use laws::{
@@ -20,3 +20,5 @@ pub use laws::{
     every_run_is_ruled, every_run_is_the_grids, every_run_that_tells_of_no_skip_has_none,
     every_service_serves_as_published, every_skipped_call_is_told,
 };
+pub use print::push_script_told;
+pub use told::{NearOutcome, ScriptTold};

@@ -1,24 +1,26 @@
 //! The lines of near clients: `near`, `nearget` and `nearfeed`.
 
-ghost use Rattle.std.specs.Prelude.{◌≡◌, ℕ, ◌≤◌, ◌++◌, if◌then◌else◌, List, None, codes, length, IfOk, OnOk, IsErrOf};
+ghost use Rattle.std.specs.Prelude.{◌≡◌, ◌≤◌, if◌then◌else◌, [], None, IfOk, IsErrOf};
 ghost use Rattle.std.specs.Str.{is_utf8};
 ghost use Rattle.call_engine.specs.Calls.{Settings};
 ghost use Rattle.call_engine.specs.Objects.{partition_object};
 ghost use Rattle.replay_run.specs.Grids.{boxed};
 ghost use Rattle.replay_run.specs.declared.run_end.RunEnd.TheVariants as RunEnds;
 ghost use Rattle.script_lang.specs.declared.line.Line.TheVariants.{Near, NearGet, NearFeed, Arrive, Comment};
-ghost use Rattle.replay_run.specs.Printing.{ok_text, words_line};
 ghost use Rattle.replay_run.specs.Runs.{connection_of};
 ghost use Rattle.script_run.specs.Runs.{ScriptRun, is_new, can_begin, may_look};
-ghost use Rattle.script_run.specs.Grids.{Goes, Stands, MayRun, HasRun, IsGivenUp, MayPlay, HasCounted, MaySend, HasSent, IsGivenUpAt, place_in};
-ghost use Rattle.script_run.specs.Printing.{hit_text};
+ghost use Rattle.script_run.specs.Grids.{Goes, Stands, MayRun, HasTold, IsGivenUp, MayPlay, MaySend, HasSent, HasMissed, IsGivenUpAt, place_in};
+ghost use Rattle.script_run.specs.AfterLines.{played};
+ghost use Rattle.script_run.specs.LineTold.{told_of, by_near};
+ghost use Rattle.script_run.specs.declared.told.NearOutcome.TheVariants as NearOutcomes;
 
-use crate::client::begin;
+use crate::client::{Fed, begin};
 use crate::grid::ScriptGrid;
-use crate::print::{push_all_heard, push_fed, push_hit, push_words};
+use crate::told::{NearOutcome, ScriptTold};
 use grid_base::{Bytes, Memory};
 use grid_client::NearLook;
-use replay_run::{RunEnd, push_ok, push_text};
+use line_told::{LineOutcome, Ready, Told};
+use replay_run::RunEnd;
 use script_lang::Line;
 use simdutf8::basic::from_utf8;
 use std::alloc::Global;
@@ -31,24 +33,6 @@ fn is_name(name: &Bytes) -> bool
     ensures { result ≡ is_utf8 name.now }
 {
     from_utf8(name.as_slice()).is_ok()
-}
-
-/// How many bytes the outcome `I ok` has.
-fn outcome_length(alloc: Global, line: u32) -> Result<usize, Memory>
-    ensures { IfOk result (λ n. n ≡ length (ok_text line)) }
-{
-    let mut outcome = Vec::new(alloc);
-    push_ok(&mut outcome, line)?;
-    Ok(outcome.len())
-}
-
-/// Appends what bytes brought whose line printed this text.
-fn push_brought(alloc: Global, line: u32, text: &[u8], out: &mut Vec<u8>) -> Result<(), Memory>
-    requires { (brought : List ℕ) × (text.now ≡ ok_text line ++ brought) }
-    ensures { (brought : List ℕ) → text.now ≡ ok_text line ++ brought → OnOk result (out.new.items ≡ out.old.items ++ brought) }
-{
-    let from = outcome_length(alloc, line)?;
-    push_text(out, &text[from..])
 }
 
 impl ScriptGrid {
@@ -79,7 +63,8 @@ impl ScriptGrid {
     /// Whether a key can be looked up: it has eight bytes at least, and bytes can arrive on the connection.
     fn may_look(&self, conn: u32, key: &Bytes) -> bool
         requires { (settings : Settings) × (s : ScriptRun) × Stands (boxed form) settings self.now s }
-        ensures { (settings : Settings) (s : ScriptRun) → Stands (boxed form) settings self.now s → result ≡ may_look (partition_object settings) s conn key.now }
+        ensures { (settings : Settings) (s : ScriptRun) → Stands (boxed form) settings self.now s
+            → result ≡ may_look (partition_object settings) s conn key.now }
     {
         key.len() >= SHORTEST_KEY && self.grid.takes_bytes(conn)
     }
@@ -97,7 +82,7 @@ impl ScriptGrid {
     }
 
     /// `near C NAME CAP`: an open connection on which no byte has arrived becomes a near connection. What its client sends
-    /// first arrives at once, where its member lives.
+    /// first arrives at once, where its member lives. The line has run either way.
     pub(crate) fn begin_near(
         &mut self,
         alloc: Global,
@@ -105,18 +90,20 @@ impl ScriptGrid {
         conn: u32,
         name: &Bytes,
         capacity: u32,
-        out: &mut Vec<u8>,
-    ) -> Result<(), RunEnd>
+    ) -> Result<ScriptTold, RunEnd>
         requires { MayRun (boxed form) self.old number (Near conn name.now capacity) }
-        ensures ok { (settings : Settings) (s : ScriptRun) → Stands (boxed form) settings self.old s → OnOk result (HasRun (boxed form) settings self.new s (Near conn name.now capacity) out.old.items out.new.items) }
-        ensures full { (settings : Settings) (s : ScriptRun) → Stands (boxed form) settings self.old s → IsErrOf result RunEnds.InFlight → IsGivenUp settings s (Near conn name.now capacity) }
+        ensures ok { (settings : Settings) (s : ScriptRun) → Stands (boxed form) settings self.old s
+            → IfOk result (HasTold (boxed form) settings self.new s (Near conn name.now capacity)) }
+        ensures full { (settings : Settings) (s : ScriptRun) → Stands (boxed form) settings self.old s → IsErrOf result RunEnds.InFlight
+            → IsGivenUp settings s (Near conn name.now capacity) }
     {
         if !self.can_begin(conn, name) {
-            return self.pass(alloc, number, out);
+            return Ok(self.pass(alloc, number)?);
         }
         let opening = begin(&mut self.nears, alloc, conn, name, capacity)?;
-        push_ok(out, number)?;
-        self.send(alloc, number, conn, opening, out)
+        let mut grid = self.send(alloc, number, conn, opening)?;
+        grid.told[0] = Told::Outcome(LineOutcome::Ran);
+        Ok(ScriptTold::by_grid(alloc, grid))
     }
 
     /// `nearget C KEY`: the client of a near connection looks a key of eight bytes at least up, where bytes can arrive on the
@@ -127,56 +114,60 @@ impl ScriptGrid {
         number: u32,
         conn: u32,
         key: &Bytes,
-        out: &mut Vec<u8>,
-    ) -> Result<(), RunEnd>
+    ) -> Result<ScriptTold, RunEnd>
         requires { MayRun (boxed form) self.old number (NearGet conn key.now) }
-        ensures ok { (settings : Settings) (s : ScriptRun) → Stands (boxed form) settings self.old s → OnOk result (HasRun (boxed form) settings self.new s (NearGet conn key.now) out.old.items out.new.items) }
-        ensures full { (settings : Settings) (s : ScriptRun) → Stands (boxed form) settings self.old s → IsErrOf result RunEnds.InFlight → IsGivenUp settings s (NearGet conn key.now) }
+        ensures ok { (settings : Settings) (s : ScriptRun) → Stands (boxed form) settings self.old s
+            → IfOk result (HasTold (boxed form) settings self.new s (NearGet conn key.now)) }
+        ensures full { (settings : Settings) (s : ScriptRun) → Stands (boxed form) settings self.old s → IsErrOf result RunEnds.InFlight
+            → IsGivenUp settings s (NearGet conn key.now) }
     {
         let Some(place) = self.place_asked(conn, key) else {
-            return self.pass(alloc, number, out);
+            return Ok(self.pass(alloc, number)?);
         };
         let look = self.nears[place].look(key)?;
         match look {
-            NearLook::Hit(value) => self.tell_hit(alloc, number, value, out),
-            NearLook::Miss(sending) => self.tell_miss(alloc, number, conn, sending.bytes, out),
+            NearLook::Hit(value) => Ok(self.hit(alloc, number, value)),
+            NearLook::Miss(sending) => self.miss(alloc, number, conn, sending.bytes),
         }
     }
 
     /// Counts a line at which a value is kept for the key.
-    fn tell_hit(
-        &mut self,
-        alloc: Global,
-        number: u32,
-        value: Option<Bytes>,
-        out: &mut Vec<u8>,
-    ) -> Result<(), RunEnd>
+    fn hit(&mut self, alloc: Global, number: u32, value: Option<Bytes>) -> ScriptTold
         requires { MayPlay (boxed form) self.old number Comment }
-        ensures ok { (settings : Settings) (s : ScriptRun) → Goes (boxed form) settings self.old s
-            → OnOk result (HasCounted (boxed form) settings self.new s (hit_text number value) out.old.items out.new.items) }
-        ensures never { (settings : Settings) (s : ScriptRun) → Goes (boxed form) settings self.old s → IsErrOf result RunEnds.InFlight → ⊥ }
+        ensures goes { (settings : Settings) (s : ScriptRun) → Goes (boxed form) settings self.old s
+            → Goes (boxed form) settings self.new (played settings [] s Comment) }
         ensures spoken { self.new.spoken ≡ self.old.spoken }
+        ensures told { told_of result ≡ by_near (NearOutcomes.Hit value) [] [] }
     {
-        self.count(alloc, number)?;
-        Ok(push_hit(alloc, out, number, value.as_ref())?)
+        self.count(number);
+        ScriptTold {
+            near: Some(NearOutcome::Hit(value)),
+            heard: Vec::new(alloc),
+            grid: Ready::new(alloc),
+        }
     }
 
     /// A line at which none is kept: the get arrives.
-    fn tell_miss(
+    fn miss(
         &mut self,
         alloc: Global,
         number: u32,
         conn: u32,
         get: Bytes,
-        out: &mut Vec<u8>,
-    ) -> Result<(), RunEnd>
+    ) -> Result<ScriptTold, RunEnd>
         requires { MaySend (boxed form) self.old number conn get }
         ensures ok { (settings : Settings) (s : ScriptRun) → Stands (boxed form) settings self.old s
-            → OnOk result (HasSent (boxed form) settings self.new s conn get (out.old.items ++ words_line number (codes "miss")) out.new.items) }
-        ensures full { (settings : Settings) (s : ScriptRun) → Stands (boxed form) settings self.old s → IsErrOf result RunEnds.InFlight → IsGivenUpAt settings s (Arrive conn get) }
+            → IfOk result (HasMissed (boxed form) settings self.new s conn get) }
+        ensures full { (settings : Settings) (s : ScriptRun) → Stands (boxed form) settings self.old s → IsErrOf result RunEnds.InFlight
+            → IsGivenUpAt settings s (Arrive conn get) }
     {
-        push_words(out, number, b"miss")?;
-        self.send(alloc, number, conn, get, out)
+        let mut grid = self.send(alloc, number, conn, get)?;
+        grid.told.remove(0);
+        Ok(ScriptTold {
+            near: Some(NearOutcome::Miss),
+            heard: Vec::new(alloc),
+            grid,
+        })
     }
 
     /// `nearfeed C K`: the client of a near connection is handed the next bytes of its connection's output, up to so many.
@@ -186,42 +177,33 @@ impl ScriptGrid {
         number: u32,
         conn: u32,
         most: u32,
-        out: &mut Vec<u8>,
-    ) -> Result<(), RunEnd>
+    ) -> Result<ScriptTold, Memory>
         requires { MayRun (boxed form) self.old number (NearFeed conn most) }
-        ensures ok { (settings : Settings) (s : ScriptRun) → Stands (boxed form) settings self.old s → OnOk result (HasRun (boxed form) settings self.new s (NearFeed conn most) out.old.items out.new.items) }
-        ensures full { (settings : Settings) (s : ScriptRun) → Stands (boxed form) settings self.old s → IsErrOf result RunEnds.InFlight → IsGivenUp settings s (NearFeed conn most) }
+        ensures { (settings : Settings) (s : ScriptRun) → Stands (boxed form) settings self.old s
+            → IfOk result (HasTold (boxed form) settings self.new s (NearFeed conn most)) }
     {
         let Some(place) = self.place_of(conn) else {
-            return self.pass(alloc, number, out);
+            return self.pass(alloc, number);
         };
-        let fed = self.nears[place].feed(most)?;
-        push_fed(out, number, fed.bytes)?;
-        push_all_heard(out, number, fed.heard.as_slice())?;
-        self.count(alloc, number)
+        let Fed { bytes, heard } = self.nears[place].feed(most)?;
+        self.count(number);
+        Ok(ScriptTold {
+            near: Some(NearOutcome::Fed { bytes }),
+            heard,
+            grid: Ready::new(alloc),
+        })
     }
 
-    /// What a near client sends arrives on its connection, where its member lives; what that brings is added.
-    fn send(
-        &mut self,
-        alloc: Global,
-        number: u32,
-        conn: u32,
-        bytes: Bytes,
-        out: &mut Vec<u8>,
-    ) -> Result<(), RunEnd>
+    /// What a near client sends arrives on its connection, where its member lives. What that brings is told behind an outcome.
+    fn send(&mut self, alloc: Global, number: u32, conn: u32, bytes: Bytes) -> Result<Ready, RunEnd>
         requires { MaySend (boxed form) self.old number conn bytes }
-        ensures ok { (settings : Settings) (s : ScriptRun) → Stands (boxed form) settings self.old s → OnOk result (HasSent (boxed form) settings self.new s conn bytes out.old.items out.new.items) }
-        ensures full { (settings : Settings) (s : ScriptRun) → Stands (boxed form) settings self.old s → IsErrOf result RunEnds.InFlight → IsGivenUpAt settings s (Arrive conn bytes) }
+        ensures ok { (settings : Settings) (s : ScriptRun) → Stands (boxed form) settings self.old s
+            → IfOk result (HasSent (boxed form) settings self.new s conn bytes) }
+        ensures full { (settings : Settings) (s : ScriptRun) → Stands (boxed form) settings self.old s → IsErrOf result RunEnds.InFlight
+            → IsGivenUpAt settings s (Arrive conn bytes) }
     {
-        let takes = self.grid.takes_bytes(conn);
         self.mark_spoken(conn);
         let line = Line::Arrive { conn, bytes };
-        let mut text = Vec::new(alloc);
-        self.run_on_grid(alloc, number, &line, &mut text)?;
-        if !takes {
-            return Ok(());
-        }
-        Ok(push_brought(alloc, number, text.as_slice(), out)?)
+        self.run_on_grid(alloc, number, &line)
     }
 }

@@ -1,21 +1,22 @@
-//! The text of the lines of near clients.
+//! The text of what a line told.
 
 ghost use Rattle.std.specs.Prelude.{◌≡◌, ◌++◌, codes, decimal, length, OnOk};
 ghost use Rattle.std.specs.Fmt.{signed_decimal};
 ghost use Rattle.std.specs.Option.{option_copied};
-ghost use Rattle.std.specs.List.{flat_map};
 ghost use Rattle.replay_run.specs.Dumps.{number as spaced};
 ghost use Rattle.replay_run.specs.Printing.{words_line};
-ghost use Rattle.script_run.specs.Printing.{hit_text, heard_text};
+ghost use Rattle.script_run.specs.LineTold.{told_of};
+ghost use Rattle.script_run.specs.Printing.{hit_text, heard_text, handed_text, all_heard_text, near_text, told_text};
 
+use crate::told::{NearOutcome, ScriptTold};
 use grid_base::{Bytes, Memory};
 use grid_client::Heard;
 use itoa::Buffer;
-use replay_run::{push_decimal, push_number, push_text, push_value};
+use line_told::{push_decimal, push_number, push_ready, push_text, push_value};
 use std::alloc::Global;
 
 /// Appends the outcome of a line, in words.
-pub(crate) fn push_words(out: &mut Vec<u8>, line: u32, words: &[u8]) -> Result<(), Memory>
+fn push_words(out: &mut Vec<u8>, line: u32, words: &[u8]) -> Result<(), Memory>
     ensures { OnOk result (out.new.items ≡ out.old.items ++ words_line line words.now) }
 {
     push_number(out, u64::from(line))?;
@@ -34,7 +35,7 @@ fn push_counted(out: &mut Vec<u8>, line: u32, word: &[u8], n: u64) -> Result<(),
 }
 
 /// Appends the outcome of a look-up that hits a value, which may be null.
-pub(crate) fn push_hit(
+fn push_hit(
     alloc: Global,
     out: &mut Vec<u8>,
     line: u32,
@@ -49,8 +50,8 @@ pub(crate) fn push_hit(
 }
 
 /// Appends the outcome of a line that handed a client so many bytes.
-pub(crate) fn push_fed(out: &mut Vec<u8>, line: u32, bytes: usize) -> Result<(), Memory>
-    ensures { OnOk result (out.new.items ≡ out.old.items ++ words_line line (codes "fed " ++ decimal bytes)) }
+fn push_fed(out: &mut Vec<u8>, line: u32, bytes: usize) -> Result<(), Memory>
+    ensures { OnOk result (out.new.items ≡ out.old.items ++ handed_text line bytes) }
 {
     push_counted(out, line, b"fed ", bytes as u64)
 }
@@ -91,11 +92,42 @@ fn push_heard(out: &mut Vec<u8>, line: u32, heard: &Heard) -> Result<(), Memory>
 }
 
 /// Appends what a client makes of several messages.
-pub(crate) fn push_all_heard(out: &mut Vec<u8>, line: u32, all: &[Heard]) -> Result<(), Memory>
-    ensures { OnOk result (out.new.items ≡ out.old.items ++ flat_map (heard_text line) all.now) }
+fn push_all_heard(out: &mut Vec<u8>, line: u32, all: &[Heard]) -> Result<(), Memory>
+    ensures { OnOk result (out.new.items ≡ out.old.items ++ all_heard_text line all.now) }
 {
     for heard in all {
         push_heard(out, line, heard)?;
     }
     Ok(())
+}
+
+/// Appends what a near client did, if it did something.
+fn push_near(
+    alloc: Global,
+    out: &mut Vec<u8>,
+    line: u32,
+    near: Option<&NearOutcome>,
+) -> Result<(), Memory>
+    ensures { OnOk result (out.new.items ≡ out.old.items ++ near_text line (option_copied near.entry)) }
+{
+    match near {
+        None => Ok(()),
+        Some(NearOutcome::Hit(value)) => push_hit(alloc, out, line, value.as_ref()),
+        Some(NearOutcome::Miss) => push_words(out, line, b"miss"),
+        Some(NearOutcome::Fed { bytes }) => push_fed(out, line, *bytes),
+    }
+}
+
+/// Appends the text of what the line of that number told.
+pub fn push_script_told(
+    alloc: Global,
+    out: &mut Vec<u8>,
+    line: u32,
+    told: &ScriptTold,
+) -> Result<(), Memory>
+    ensures { OnOk result (out.new.items ≡ out.old.items ++ told_text line (told_of told.now)) }
+{
+    push_near(alloc, out, line, told.near.as_ref())?;
+    push_all_heard(out, line, told.heard.as_slice())?;
+    push_ready(alloc, out, line, &told.grid)
 }

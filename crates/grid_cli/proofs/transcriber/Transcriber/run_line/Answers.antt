@@ -7,12 +7,12 @@ use Rattle.grid_cli.proofs.transcriber.Transcriber.run_line.Goals as goal
 pub returns-then-is_end : goal.returns-then-is_end
 returns-then-is_end g c = λ forms skips done written follows text read.
     let ran = from_nothing c.requires.empty (c.in-Ok.ensures.ok (settings forms follows.capacity) follows.run follows.stands) in
-    line_ends c.args.grid c.run_line.new.self skips done written text c.run_line.new.out.items follows c.args.line.now read ran (sym c.is_end.ensures ∙ c.if-is_end.true)
+    line_ends c.args.grid c.print_line.new.self skips done written text c.print_line.new.out.items follows c.args.line.now read ran (sym c.is_end.ensures ∙ c.if-is_end.true)
 
 pub returns-else-is_end : goal.returns-else-is_end
 returns-else-is_end g c = λ forms skips done written follows text read.
     let ran = from_nothing c.requires.empty (c.in-Ok.ensures.ok (settings forms follows.capacity) follows.run follows.stands) in
-    line_goes c.args.grid c.run_line.new.self skips done written text c.run_line.new.out.items follows c.args.line.now read ran (sym c.is_end.ensures ∙ c.if-is_end.false)
+    line_goes c.args.grid c.print_line.new.self skips done written text c.print_line.new.out.items follows c.args.line.now read ran (sym c.is_end.ensures ∙ c.if-is_end.false)
 
 pub returns-in-Err-InFlight : goal.returns-in-Err-InFlight
 returns-in-Err-InFlight g c = λ forms skips done written follows text read.

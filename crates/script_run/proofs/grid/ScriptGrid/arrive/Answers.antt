@@ -1,7 +1,8 @@
-use Rattle.std.proofs.Common.{is_some, ap, sym, ◌∙◌}
-use Rattle.std.proofs.lemmas.Result.{on_ok_weaker}
+use Rattle.std.proofs.Common.{Err, is_some, ap, sym, ◌∙◌}
+use Rattle.replay_run.specs.declared.run_end.RunEnd.TheVariants.{InFlight}
+use Rattle.replay_run.proofs.Asking.{handed_on}
 use Rattle.script_run.proofs.Nears.{near_here, not_near_here}
-use Rattle.script_run.proofs.Playing.{may_run_as, may_count, may_play, may_play_as, next_number, goes_as, ran_bytes, given_up_bytes, ran_refused}
+use Rattle.script_run.proofs.Playing.{may_run_as, may_count, may_play, may_play_as, goes_as, told_bytes, given_up_bytes, told_refused}
 use Rattle.script_run.proofs.grid.ScriptGrid.arrive.Goals as goal
 
 pub pass-requires : goal.pass-requires
@@ -11,12 +12,7 @@ pub returns-then-is_some-clause-ok : goal.returns-then-is_some-clause-ok
 returns-then-is_some-clause-ok g c = λ settings s bytes is stands.
     let all = c.args.self.now in
     let near = near_here c.args.conn all.nears.items s.nears stands.goes.nears (sym (c.is_some.ensures ∙ ap is_some c.place_of.ensures) ∙ c.if-is_some.true) in
-    on_ok_weaker c.pass.result
-    (ran_refused c.pass.new.self all s c.args.line.now c.args.conn bytes c.args.number is stands (next_number all c.args.number c.args.line.now c.requires.2 s stands) near c.pass.ensures.spoken c.args.out.now.items c.pass.new.out.items)
-    (c.pass.ensures.ok settings s stands.goes)
-
-pub returns-then-is_some-clause-full : goal.returns-then-is_some-clause-full
-returns-then-is_some-clause-full g c = λ settings s bytes is stands full. absurd (c.pass.ensures.never settings s stands.goes full)
+    told_refused c.pass.new.self all s c.args.line.now c.args.conn bytes is stands near c.pass.ensures.spoken (c.pass.ensures.goes settings s stands.goes) _ c.in_ok-pass.ensures.told
 
 pub mark_spoken-requires : goal.mark_spoken-requires
 mark_spoken-requires g c = (c.requires.2.settings, c.requires.2.run, c.requires.2.stands, (may_run_as c.requires.1 c.requires.2).read.0)
@@ -29,13 +25,12 @@ returns-clause-ok g c = λ settings s bytes is stands.
     let all = c.args.self.now in
     let free = not_near_here c.args.conn all.nears.items s.nears stands.goes.nears (sym (c.is_some.ensures ∙ ap is_some c.place_of.ensures) ∙ c.if-is_some.false) in
     let some = (may_run_as is c.requires.2).read.1 in
-    on_ok_weaker c.run_on_grid.result
-    (ran_bytes c.run_on_grid.new.self c.mark_spoken.new.self s c.args.line.now c.args.conn bytes is free (λ skips. c.mark_spoken.ensures.spoken settings s bytes skips stands some) c.run_on_grid.ensures.spoken
-    c.args.out.now.items c.run_on_grid.new.out.items)
-    (c.run_on_grid.ensures.ok settings s (goes_as c.mark_spoken.ensures.rest stands.goes))
+    told_bytes c.run_on_grid.new.self c.mark_spoken.new.self s c.args.line.now c.args.conn bytes is free (λ skips. c.mark_spoken.ensures.spoken settings s bytes skips stands some) c.run_on_grid.ensures.spoken
+    c.in_ok-ready.ready _ c.by_grid.ensures (c.in_ok-ready.ensures.ok settings s (goes_as c.mark_spoken.ensures.rest stands.goes))
 
-pub returns-clause-full : goal.returns-clause-full
-returns-clause-full g c = λ settings s bytes is stands full.
+pub returns-in_err-ready-clause-full : goal.returns-in_err-ready-clause-full
+returns-in_err-ready-clause-full g c = λ settings s bytes is stands was.
     let all = c.args.self.now in
     let free = not_near_here c.args.conn all.nears.items s.nears stands.goes.nears (sym (c.is_some.ensures ∙ ap is_some c.place_of.ensures) ∙ c.if-is_some.false) in
-    given_up_bytes s c.args.line.now c.args.conn bytes is free (c.run_on_grid.ensures.full settings s (goes_as c.mark_spoken.ensures.rest stands.goes) full)
+    let why = handed_on c.from_residual-in_err-ready.result c.in_err-ready.field-0.0 InFlight c.from_residual-in_err-ready.ensures.1 was in
+    given_up_bytes s c.args.line.now c.args.conn bytes is free (c.in_err-ready.ensures.full settings s (goes_as c.mark_spoken.ensures.rest stands.goes) (ap Err why))

@@ -1,5 +1,5 @@
 use Rattle.std.proofs.Common.{refl, sym, ◌∙◌, subst, arith}
-use Rattle.std.proofs.lemmas.Result.{on_ok_weaker}
+use Rattle.std.proofs.lemmas.Result.{IfOk-weaker}
 use Rattle.call_engine.specs.Objects.{partition_object}
 use Rattle.script_lang.specs.declared.line.Line.TheVariants.{NearGet, Arrive}
 use Rattle.script_run.specs.NearClients.{used, missed}
@@ -7,9 +7,9 @@ use Rattle.script_run.specs.Runs.{may_look, changed}
 use Rattle.script_run.specs.Grids.{is_kept, place_in, MaySend, IsGivenUpAt}
 use Rattle.script_run.proofs.Handed.{was_hit, was_missed}
 use Rattle.script_run.proofs.LookUps.{may_if, unmade_if}
-use Rattle.script_run.proofs.NearLines.{ran_not_looked, ran_hit, ran_missed, given_up_missed, may_count_with, may_send, stands_with, has_sent_as}
+use Rattle.script_run.proofs.NearLines.{told_not_looked, told_hit, told_missed, given_up_missed, may_count_with, may_send, stands_with, has_missed_as}
 use Rattle.script_run.proofs.Places.{first_placed}
-use Rattle.script_run.proofs.Playing.{may_count, next_number}
+use Rattle.script_run.proofs.Playing.{may_count}
 use Rattle.script_run.proofs.Sizes.{get_fits}
 use Rattle.script_run.proofs.grid.ScriptGrid.look_up.Goals as goal
 
@@ -25,12 +25,8 @@ returns-in_default-clause-ok g c = λ settings s stands.
     let all = c.args.self.now in
     let conn = c.args.conn in
     let key = c.args.key.now in
-    let at_line = next_number all c.args.number (NearGet conn key) c.requires s stands in
     let unmade = unmade_if (partition_object settings) s conn key all.nears.items stands.goes.nears (sym (c.place_asked.ensures settings s stands) ∙ c.in_default.is) in
-    on_ok_weaker c.pass.result (ran_not_looked c.pass.new.self all s conn key c.args.number stands at_line unmade c.pass.ensures.spoken c.args.out.now.items c.pass.new.out.items) (c.pass.ensures.ok settings s stands.goes)
-
-pub returns-in_default-clause-full : goal.returns-in_default-clause-full
-returns-in_default-clause-full g c = λ settings s stands full. absurd (c.pass.ensures.never settings s stands.goes full)
+    told_not_looked s conn key c.pass.new.self all stands unmade c.pass.ensures.spoken (c.pass.ensures.goes settings s stands.goes) _ c.in_ok-pass.ensures.told
 
 pub index_mut-requires : goal.index_mut-requires
 index_mut-requires g c =
@@ -42,8 +38,8 @@ index_mut-requires g c =
 
 -- A value is kept.
 
-pub tell_hit-requires : goal.tell_hit-requires
-tell_hit-requires g c =
+pub hit-requires : goal.hit-requires
+hit-requires g c =
     let may = c.requires in
     let settings = may.settings in
     let s = may.run in
@@ -60,28 +56,15 @@ returns-in-Hit-clause-ok g c = λ settings s stands.
     let all = c.args.self.now in
     let conn = c.args.conn in
     let key = c.args.key.now in
-    let number = c.args.number in
     let hit = was_hit all s stands conn key c.in-Some.place (sym (c.place_asked.ensures settings s stands) ∙ c.in-Some.is) c.index_mut.result.now c.look.new.self c.index_mut.ensures.value c.in_ok-look.ensures.rest
     c.in_ok-look.look c.in_ok-look.ensures.looks c.in-Hit.value c.in-Hit.is in
     let ns = changed conn (used key) s.nears in
-    on_ok_weaker c.tell_hit.result
-    (ran_hit c.tell_hit.new.self all s conn key number hit.near c.in-Hit.value stands.spoken (next_number all number (NearGet conn key) c.requires s stands) hit.looks c.tell_hit.ensures.spoken c.args.out.now.items c.tell_hit.new.out.items)
-    (c.tell_hit.ensures.ok settings (record s { nears = ns }) (stands_with _ ns stands hit.nears).goes)
-
-pub returns-in-Hit-clause-full : goal.returns-in-Hit-clause-full
-returns-in-Hit-clause-full g c = λ settings s stands full.
-    let all = c.args.self.now in
-    let conn = c.args.conn in
-    let key = c.args.key.now in
-    let hit = was_hit all s stands conn key c.in-Some.place (sym (c.place_asked.ensures settings s stands) ∙ c.in-Some.is) c.index_mut.result.now c.look.new.self c.index_mut.ensures.value c.in_ok-look.ensures.rest
-    c.in_ok-look.look c.in_ok-look.ensures.looks c.in-Hit.value c.in-Hit.is in
-    let ns = changed conn (used key) s.nears in
-    absurd (c.tell_hit.ensures.never settings (record s { nears = ns }) (stands_with _ ns stands hit.nears).goes full)
+    told_hit s conn key c.hit.new.self all hit.near c.in-Hit.value stands.spoken hit.looks c.hit.ensures.spoken (c.hit.ensures.goes settings (record s { nears = ns }) (stands_with _ ns stands hit.nears).goes) _ c.hit.ensures.told
 
 -- None is: the get is sent.
 
-pub tell_miss-requires : goal.tell_miss-requires
-tell_miss-requires g c =
+pub miss-requires : goal.miss-requires
+miss-requires g c =
     let may = c.requires in
     let settings = may.settings in
     let s = may.run in
@@ -99,14 +82,12 @@ returns-in-Miss-clause-ok g c = λ settings s stands.
     let all = c.args.self.now in
     let conn = c.args.conn in
     let key = c.args.key.now in
-    let number = c.args.number in
     let miss = was_missed all s stands conn key c.in-Some.place (sym (c.place_asked.ensures settings s stands) ∙ c.in-Some.is) c.index_mut.result.now c.look.new.self c.index_mut.ensures.value c.in_ok-look.ensures.rest
     c.in_ok-look.look c.in_ok-look.ensures.looks c.in-Miss.sending c.in-Miss.is in
     let ns = changed conn (missed key) s.nears in
-    on_ok_weaker c.tell_miss.result
-    (λ sent. ran_missed c.tell_miss.new.self s conn key number miss.near miss.looks (next_number all number (NearGet conn key) c.requires s stands) c.args.out.now.items c.tell_miss.new.out.items
-    (has_sent_as miss.sent refl sent))
-    (c.tell_miss.ensures.ok settings (record s { nears = ns }) (stands_with _ ns stands miss.nears))
+    IfOk-weaker c.miss.result _ _
+    (λ it was. told_missed s conn key c.miss.new.self miss.near miss.looks it (has_missed_as miss.sent was))
+    (c.miss.ensures.ok settings (record s { nears = ns }) (stands_with _ ns stands miss.nears))
 
 pub returns-in-Miss-clause-full : goal.returns-in-Miss-clause-full
 returns-in-Miss-clause-full g c = λ settings s stands full.
@@ -117,4 +98,4 @@ returns-in-Miss-clause-full g c = λ settings s stands full.
     c.in_ok-look.look c.in_ok-look.ensures.looks c.in-Miss.sending c.in-Miss.is in
     let ns = changed conn (missed key) s.nears in
     given_up_missed s conn key miss.near miss.looks
-    (subst (λ bytes. IsGivenUpAt settings (record s { nears = ns }) (Arrive conn bytes)) miss.sent (c.tell_miss.ensures.full settings (record s { nears = ns }) (stands_with _ ns stands miss.nears) full))
+    (subst (λ bytes. IsGivenUpAt settings (record s { nears = ns }) (Arrive conn bytes)) miss.sent (c.miss.ensures.full settings (record s { nears = ns }) (stands_with _ ns stands miss.nears) full))
