@@ -7,6 +7,7 @@ ghost use Rattle.grid_server.specs.Settings.{AreWorkers, IsSetting};
 
 use entry_processors::Form;
 use grid_base::Memory;
+use hand_cell::Names;
 use live_grid::{Environment, GridPass, LiveGrid, LiveWorld, Shared};
 use live_server::Connections;
 use partition_threads::WorkerTokens;
@@ -80,7 +81,7 @@ impl<F, K> Setting<F, K> {
         } = options;
         let (grid, mut pass) = LiveGrid::new(alloc, members, backups, env, forms, capacity)?;
         let workers = workers_of(alloc, &grid, &mut pass, THREADS * members)?;
-        let GridPass { passes, tokens } = grid.split(alloc, &mut pass)?;
+        let GridPass { passes, tokens } = grid.split(alloc, &mut pass, Names::Every)?;
         let connections = match Connections::new(alloc, passes, tokens) {
             Ok(connections) => connections,
             Err(_) => return Err(AllocError),

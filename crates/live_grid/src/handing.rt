@@ -1,9 +1,9 @@
 //! How the passes of a grid are handed out among threads, and taken back.
-ghost use Rattle.std.specs.Prelude.{◌≡◌, ◌<◌, ◌≤◌, ◌+◌, ◌*◌, [], length, map, Some, IfOk, OnOk, OnErr};
-ghost use Rattle.hand_cell.specs.declared.names.Names.TheVariants.{One, Every};
+ghost use Rattle.std.specs.Prelude.{◌≡◌, ℕ, ◌<◌, ◌≤◌, ◌+◌, ◌*◌, [], length, map, Some, IfOk, OnOk, OnErr};
+ghost use Rattle.hand_cell.specs.declared.names.Names.TheVariants.{One};
 ghost use Rattle.partition_threads.specs.Workplaces.{IsTokenAt};
 ghost use Rattle.session_calls.specs.Openings.{IsOpened, HasAllPasses};
-ghost use Rattle.session_calls.specs.Passes.{HaveNumber, AreJoinedWith, giving_up, given};
+ghost use Rattle.session_calls.specs.Passes.{HaveNumber, MayGiveAt, AreJoinedWith, giving_up, given};
 ghost use Rattle.session_calls.specs.Sessions.{IsSessionOf};
 ghost use Rattle.live_grid.specs.Grids.{IsGridPassOf, place_of};
 ghost use Rattle.live_grid.specs.Histories.{live_key};
@@ -11,6 +11,7 @@ ghost use Rattle.live_grid.specs.Histories.{live_key};
 use crate::grid::{GridPass, LiveGrid};
 use crate::world::LiveWorld;
 use grid_base::{MemberId, Memory};
+use hand_cell::Names;
 use partition_threads::{THREADS, WorkerTokens};
 use session_calls::{SessionPass, join_passes, split_passes, split_tokens};
 use std::alloc::Global;
@@ -59,15 +60,21 @@ impl LiveGrid {
         session.close(self.workplace(), &mut pass.passes);
     }
 
-    /// Cuts the grid's pass in two: the second one gets all connections' numbers that the first has, and a token of each
-    /// worker's queue; the first keeps Control. Takes memory for a place for each partition and for each worker; without
-    /// it nothing has changed.
-    pub fn split(&self, alloc: Global, pass: &mut GridPass) -> Result<GridPass, Memory>
-        requires { IsGridPassOf self.now pass.old }
-        ensures parts { IfOk result (λ other. other.passes.items ≡ map (given Every) pass.old.passes.items) }
+    /// Cuts the grid's pass in two: the second one gets these names, which the first loses, and a token of each worker's
+    /// queue; the first keeps Control. Takes memory for a place for each partition and for each worker; without it
+    /// nothing has changed.
+    pub fn split(
+        &self,
+        alloc: Global,
+        pass: &mut GridPass,
+        names: Names,
+    ) -> Result<GridPass, Memory>
+        requires pass { IsGridPassOf self.now pass.old }
+        requires may { (at : ℕ) → MayGiveAt names pass.old.passes.items at }
+        ensures parts { IfOk result (λ other. other.passes.items ≡ map (given names) pass.old.passes.items) }
         ensures workers { IfOk result (λ other. length other.tokens.items ≡ length pass.old.tokens.items) }
         ensures other { IfOk result (λ other. IsGridPassOf self.now other) }
-        ensures left { OnOk result (pass.new.passes.items ≡ map (giving_up Every) pass.old.passes.items) }
+        ensures left { OnOk result (pass.new.passes.items ≡ map (giving_up names) pass.old.passes.items) }
         ensures err { OnErr result (pass.new.passes.items ≡ pass.old.passes.items) }
         ensures tokens_stay { pass.new.tokens.items ≡ pass.old.tokens.items }
         ensures kept { IsGridPassOf self.now pass.new }
@@ -75,7 +82,7 @@ impl LiveGrid {
         let place = self.workplace();
         let workers = pass.tokens.len();
         let tokens = split_tokens(alloc, place, &mut pass.tokens, 0, workers)?;
-        let passes = split_passes(alloc, place, &mut pass.passes)?;
+        let passes = split_passes(alloc, place, &mut pass.passes, names)?;
         Ok(GridPass { passes, tokens })
     }
 

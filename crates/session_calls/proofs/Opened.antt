@@ -1,16 +1,16 @@
 -- For callers: which numbers passes have once they were split or joined, and what a session has that was opened.
-use Rattle.std.proofs.Common.{◌≡◌, ◌≢◌, ℕ, eqb, Bool, true, false, not, ◌||◌, if◌then◌else◌, List, [], ◌∷◌, Some, slice_get, map, sym, refl, ap, ◌∙◌, subst, arith}
+use Rattle.std.proofs.Common.{◌≡◌, ◌≢◌, ℕ, ◌+◌, ◌<◌, ◌≤◌, eqb, Bool, true, false, not, ◌||◌, if◌then◌else◌, List, [], ◌∷◌, Some, slice_get, map, sym, refl, ap, ◌∙◌, subst, arith}
 use Rattle.std.proofs.lemmas.Bool.Decides.{nat_tests}
 use Rattle.hand_cell.specs.declared.cell.Cell.{Cell}
 use Rattle.hand_cell.specs.declared.names.Key.{Key}
 use Rattle.hand_cell.specs.declared.names.Key.TheVariants.{Call}
-use Rattle.hand_cell.specs.declared.names.Names.TheVariants.{One, Every}
+use Rattle.hand_cell.specs.declared.names.Names.TheVariants.{One, Block, Every}
 use Rattle.hand_cell.specs.declared.names.Numbers.{Numbers}
 use Rattle.hand_cell.specs.declared.names.Numbers.TheVariants.{Only, AllBut}
 use Rattle.hand_cell.specs.Calls.{first_pass}
 use Rattle.hand_cell.specs.Names.{has_number, listed, removed, without}
 use Rattle.hand_cell.specs.Told.{Told}
-use Rattle.hand_cell.proofs.Naming.{has_both}
+use Rattle.hand_cell.proofs.Naming.{has_both, block_named, left_named}
 use Rattle.partition_threads.specs.declared.workplace.Workplace.{Workplace}
 use Rattle.session_calls.specs.declared.session.SessionPass.{SessionPass}
 use Rattle.session_calls.specs.Openings.{IsOpened}
@@ -50,6 +50,16 @@ module _ {E : Type 0} where
   -- a second pass that gets every number has those of the first
   pub all_named : (m : ℕ) (passes : List (Told E)) → HaveNumber m passes → HaveNumber m (map (given Every) passes)
   all_named m passes have k q e = let was = came_from (given Every) passes k q e in ap (λ (p : Told E). has_number p.names.numbers m) was.2 ∙ have k was.0 was.1
+
+  -- second passes that get a block of numbers have these
+  pub block_is_named : (first count m : ℕ) (passes : List (Told E)) → first ≤ m → m < first + count → HaveNumber m (map (given (Block first count)) passes)
+  block_is_named first count m passes from below k q e = let was = came_from (given (Block first count)) passes k q e in
+      ap (λ (p : Told E). has_number p.names.numbers m) was.2 ∙ block_named first count m was.0.names from below
+
+  -- and the first keep every other
+  pub rest_is_named : (first count m : ℕ) (passes : List (Told E)) → ¬ ((first ≤ m) × (m < first + count)) → HaveNumber m passes → HaveNumber m (map (giving_up (Block first count)) passes)
+  rest_is_named first count m passes outside have k q e = let was = came_from (giving_up (Block first count)) passes k q e in
+      ap (λ (p : Told E). has_number p.names.numbers m) was.2 ∙ left_named first count m was.0.names outside (have k was.0 was.1)
 
   -- a pass that took another in has both's numbers
   pub joined_has : (key_of : E → Key) (m : ℕ) (pass other joined : Told E) → IsJoinedWith key_of pass other joined → has_number joined.names.numbers m ≡ (has_number pass.names.numbers m || has_number other.names.numbers m)

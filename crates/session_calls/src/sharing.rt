@@ -1,6 +1,5 @@
 //! Passes of all cells of a workplace, and tokens of its workers, shared out and taken back place by place.
-ghost use Rattle.std.specs.Prelude.{◌≡◌, ◌<◌, ◌≤◌, ◌+◌, length, map, Some, slice_get, vec_len, IfOk, OnOk, OnErr};
-ghost use Rattle.hand_cell.specs.declared.names.Names.TheVariants.{Every};
+ghost use Rattle.std.specs.Prelude.{◌≡◌, ℕ, ◌<◌, ◌≤◌, ◌+◌, length, map, Some, slice_get, vec_len, IfOk, OnOk, OnErr};
 ghost use Rattle.job_queues.specs.Roster.{roster_of};
 ghost use Rattle.partition_threads.specs.Workplaces.{AreTokensAt};
 ghost use Rattle.session_calls.specs.Passes.{ArePassesOf, MayGiveAt, HasSplitAt, HasJoinedAt, AreJoinedWith, AreTokensFrom, giving_up, given};
@@ -11,23 +10,25 @@ use job_queues::QueuePass;
 use partition_threads::Workplace;
 use std::alloc::Global;
 
-/// Splits a second pass off each of these, one of each cell. It has seen as much, and gets all connections' numbers that
-/// the first has; Control stays. Takes memory for as many passes, and without it nothing has changed. Costs the cells.
+/// Splits a second pass off each of these, one of each cell. It has seen as much, and gets these names, which the first
+/// loses. Takes memory for as many passes, and without it nothing has changed. Costs the cells.
 pub fn split_passes<T: Served>(
     alloc: Global,
     place: &Workplace<T>,
     passes: &mut Vec<Pass<T>>,
+    names: Names,
 ) -> Result<Vec<Pass<T>>, Memory>
-    requires { ArePassesOf place.now.cells.items passes.old.items }
-    ensures parts { IfOk result (λ parts. parts.items ≡ map (given Every) passes.old.items) }
-    ensures left { OnOk result (passes.new.items ≡ map (giving_up Every) passes.old.items) }
+    requires passes { ArePassesOf place.now.cells.items passes.old.items }
+    requires may { (at : ℕ) → MayGiveAt names passes.old.items at }
+    ensures parts { IfOk result (λ parts. parts.items ≡ map (given names) passes.old.items) }
+    ensures left { OnOk result (passes.new.items ≡ map (giving_up names) passes.old.items) }
     ensures err { OnErr result (passes.new.items ≡ passes.old.items) }
     ensures of_cells { IfOk result (λ parts. ArePassesOf place.now.cells.items parts.items) }
     ensures kept { ArePassesOf place.now.cells.items passes.new.items }
 {
     let mut parts = Vec::with_capacity(alloc, passes.len())?;
     for at in 0..passes.len() {
-        parts.push_reserved(split_at(place, passes, at, Names::Every));
+        parts.push_reserved(split_at(place, passes, at, names));
     }
     Ok(parts)
 }
