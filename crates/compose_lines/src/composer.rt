@@ -1,9 +1,9 @@
 //! Lines of words, one after the other, as lines of a script.
 ghost use Rattle.std.specs.Prelude.{◌≡◌, ◌≤◌};
 
-use crate::reading::{SayLine, Told, read_say_line};
 use compose_words::{SayRefused, Saying, write_arrival, write_say_line};
 use grid_base::Memory;
+use say_words::{SayLine, Told, read_say_line};
 use script_lang::{Line, LineRefused, LineWhy, read_line};
 use std::alloc::{AllocError, AllocFailed, Global};
 

@@ -3,11 +3,6 @@
 
 mod command;
 mod composer;
-mod data;
-mod numbers;
-mod options;
-mod reading;
-mod what;
 
 pub use command::compose_command;
 pub use composer::{Composed, Composer};

@@ -207,3 +207,11 @@ impl What {
         }
     }
 }
+
+/// Whether it is the word of what names an object and, behind it, a key or a value.
+pub fn has_data(word: &[u8]) -> bool {
+    match What::of_word(word) {
+        Some(what) => what.count() >= 2,
+        None => false,
+    }
+}

@@ -1,4 +1,6 @@
 //! Keys, values and names as words.
+ghost use Rattle.std.specs.Prelude.{◌≡◌, Err};
+ghost use Rattle.script_lang.specs.declared.refusal.LineRefused.TheVariants as refusals;
 
 use crate::numbers::{read_i64, read_partition};
 use grid_base::{Bytes, Memory, PARTITIONS};
@@ -18,7 +20,9 @@ const TEXT_TYPE: u32 = 0xffff_fff5;
 const NUMBER_TYPE: u32 = 0xffff_fff8;
 
 /// A refusal for this cause.
-pub(crate) fn refused<T>(why: LineWhy) -> Result<T, LineRefused> {
+pub(crate) fn refused<T>(why: LineWhy) -> Result<T, LineRefused>
+    ensures { result ≡ Err (refusals.Why why) }
+{
     Err(LineRefused::Why(why))
 }
 

@@ -1,4 +1,8 @@
 //! The words of a `say` line, read.
+ghost use Rattle.std.specs.Prelude.{◌≡◌, IfOk};
+ghost use Rattle.grid_base.specs.declared.names.ClientKey.{ClientKey};
+ghost use Rattle.compose_words.specs.Waits.{plain_of};
+ghost use Rattle.say_words.specs.Words.{IsCallBy, IsMadeBy, IsToldBy};
 
 use crate::data::{
     or_refused, plain_text_data, read_argument, read_data, read_hex, read_text, refused,
@@ -22,9 +26,9 @@ const THREAD: i64 = 1;
 /// How many milliseconds a call waits where none are said: without an end.
 const TIMEOUT: i64 = -1;
 
-/// What a `say` line says.
+/// What words say.
 #[derive(Debug, Drop)]
-pub(crate) enum Told {
+pub enum Told {
     /// A message, with the correlation that was said, if one was.
     Message {
         correlation: Option<i64>,
@@ -36,9 +40,10 @@ pub(crate) enum Told {
 
 /// A line: what is said on a connection.
 #[derive(Debug, Drop)]
-pub(crate) struct SayLine {
-    pub(crate) conn: u32,
-    pub(crate) told: Told,
+pub struct SayLine {
+    /// The connection, from 0 to 63.
+    pub conn: u32,
+    pub told: Told,
 }
 
 /// Who calls, and the times of a call.
@@ -50,7 +55,9 @@ struct Terms {
     lease: i64,
 }
 
-fn read_bare(alloc: Global, which: Bare, map: &[u8], key: &[u8]) -> Result<MapCall, LineRefused> {
+fn read_bare(alloc: Global, which: Bare, map: &[u8], key: &[u8]) -> Result<MapCall, LineRefused>
+    ensures { IfOk result (λ call. (client : ClientKey) → IsCallBy client call) }
+{
     let name = read_text(alloc, map)?;
     let key = read_data(alloc, key)?;
     Ok(match which {
@@ -65,7 +72,9 @@ fn read_keyed(
     map: &[u8],
     key: &[u8],
     owner: Owner,
-) -> Result<MapCall, LineRefused> {
+) -> Result<MapCall, LineRefused>
+    ensures { IfOk result (IsCallBy owner.client) }
+{
     let name = read_text(alloc, map)?;
     let key = read_data(alloc, key)?;
     Ok(match which {
@@ -77,7 +86,9 @@ fn read_keyed(
     })
 }
 
-fn read_lock(alloc: Global, map: &[u8], key: &[u8], terms: Terms) -> Result<MapCall, LineRefused> {
+fn read_lock(alloc: Global, map: &[u8], key: &[u8], terms: Terms) -> Result<MapCall, LineRefused>
+    ensures { IfOk result (IsCallBy terms.owner.client) }
+{
     let name = read_text(alloc, map)?;
     let key = read_data(alloc, key)?;
     Ok(MapCall::TryLock {
@@ -95,7 +106,9 @@ fn read_valued(
     key: &[u8],
     value: &[u8],
     owner: Owner,
-) -> Result<MapCall, LineRefused> {
+) -> Result<MapCall, LineRefused>
+    ensures { IfOk result (IsCallBy owner.client) }
+{
     let name = read_text(alloc, map)?;
     let key = read_data(alloc, key)?;
     let value = read_data(alloc, value)?;
@@ -122,7 +135,9 @@ fn read_compared(
     test: &[u8],
     value: &[u8],
     owner: Owner,
-) -> Result<MapCall, LineRefused> {
+) -> Result<MapCall, LineRefused>
+    ensures { IfOk result (IsCallBy owner.client) }
+{
     let name = read_text(alloc, map)?;
     let key = read_data(alloc, key)?;
     let test = read_data(alloc, test)?;
@@ -143,7 +158,9 @@ fn read_stored(
     key: &[u8],
     value: &[u8],
     terms: Terms,
-) -> Result<MapCall, LineRefused> {
+) -> Result<MapCall, LineRefused>
+    ensures { IfOk result (IsCallBy terms.owner.client) }
+{
     let Terms { owner, ttl, .. } = terms;
     let name = read_text(alloc, map)?;
     let key = read_data(alloc, key)?;
@@ -180,7 +197,9 @@ fn read_idle(
     key: &[u8],
     value: &[u8],
     terms: Terms,
-) -> Result<MapCall, LineRefused> {
+) -> Result<MapCall, LineRefused>
+    ensures { IfOk result (IsCallBy terms.owner.client) }
+{
     let Terms {
         owner,
         ttl,
@@ -217,7 +236,9 @@ fn read_processing(
     number: &[u8],
     argument: &[u8],
     owner: Owner,
-) -> Result<MapCall, LineRefused> {
+) -> Result<MapCall, LineRefused>
+    ensures { IfOk result (IsCallBy owner.client) }
+{
     let name = read_text(alloc, map)?;
     let key = read_data(alloc, key)?;
     let number = or_refused(read_i32(number), LineWhy::Number)?;
@@ -279,7 +300,9 @@ fn read_map_call(
     what: What,
     words: &[&[u8]],
     terms: Terms,
-) -> Result<MapCall, LineRefused> {
+) -> Result<MapCall, LineRefused>
+    ensures { IfOk result (IsCallBy terms.owner.client) }
+{
     let owner = terms.owner;
     match (what, words) {
         (What::Bare(which), [map, key]) => read_bare(alloc, which, map, key),
@@ -308,7 +331,9 @@ fn read_map_wait(
     what: What,
     words: &[&[u8]],
     terms: Terms,
-) -> Result<MapWait, LineRefused> {
+) -> Result<MapWait, LineRefused>
+    ensures { IfOk result (λ wait. IsCallBy terms.owner.client (plain_of wait)) }
+{
     let Terms {
         owner,
         ttl,
@@ -380,7 +405,9 @@ fn read_listening(alloc: Global, what: What, words: &[&[u8]]) -> Result<Listenin
 }
 
 /// What makes a client known.
-fn hello(alloc: Global, options: &Options) -> Result<Saying, LineRefused> {
+fn hello(alloc: Global, options: &Options) -> Result<Saying, LineRefused>
+    ensures { IfOk result (λ saying. (client : ClientKey) → IsMadeBy client saying) }
+{
     let name = match &options.cluster {
         Some(name) => name.copied(alloc)?,
         None => Bytes::copied_from(alloc, CLUSTER)?,
@@ -392,10 +419,12 @@ fn hello(alloc: Global, options: &Options) -> Result<Saying, LineRefused> {
 }
 
 /// Who calls, and when what ends. Of the caller the thread alone is said.
-fn terms_of(conn: u32, options: &Options) -> Terms {
+fn terms_of(client: ClientKey, options: &Options) -> Terms
+    ensures { result.owner.client ≡ client }
+{
     Terms {
         owner: Owner {
-            client: ClientKey::OfConn(conn),
+            client,
             thread: options.thread.unwrap_or(THREAD),
         },
         ttl: options.ttl.unwrap_or(0),
@@ -407,11 +436,13 @@ fn terms_of(conn: u32, options: &Options) -> Terms {
 /// What these words say, with these options behind them.
 fn read_saying(
     alloc: Global,
-    conn: u32,
+    client: ClientKey,
     what: What,
     words: &[&[u8]],
     options: &Options,
-) -> Result<Saying, LineRefused> {
+) -> Result<Saying, LineRefused>
+    ensures { IfOk result (IsMadeBy client) }
+{
     match what {
         What::Hello => hello(alloc, options),
         What::Ping => Ok(Saying::Ping),
@@ -421,7 +452,7 @@ fn read_saying(
             Ok(Saying::OnQueue { partition, call })
         }
         What::LockWait | What::PutWait => {
-            let wait = read_map_wait(alloc, what, words, terms_of(conn, options))?;
+            let wait = read_map_wait(alloc, what, words, terms_of(client, options))?;
             let timeout = options.timeout.unwrap_or(TIMEOUT);
             Ok(Saying::WaitOnMap { wait, timeout })
         }
@@ -439,14 +470,16 @@ fn read_saying(
             Ok(Saying::Listen(read_listening(alloc, what, words)?))
         }
         _ => {
-            let call = read_map_call(alloc, what, words, terms_of(conn, options))?;
+            let call = read_map_call(alloc, what, words, terms_of(client, options))?;
             Ok(Saying::OnMap(call))
         }
     }
 }
 
 /// Bytes to be said as they are.
-fn read_raw(alloc: Global, words: &[&[u8]]) -> Result<Told, LineRefused> {
+fn read_raw(alloc: Global, words: &[&[u8]]) -> Result<Told, LineRefused>
+    ensures { IfOk result (λ told. (client : ClientKey) → IsToldBy client told) }
+{
     match words {
         [word] if !word.is_empty() => Ok(Told::Raw(read_hex(alloc, word)?)),
         [_] => refused(LineWhy::Hex),
@@ -457,30 +490,46 @@ fn read_raw(alloc: Global, words: &[&[u8]]) -> Result<Told, LineRefused> {
 /// A message of these words.
 fn read_message(
     alloc: Global,
-    conn: u32,
+    client: ClientKey,
     word: &[u8],
     words: &[&[u8]],
-) -> Result<Told, LineRefused> {
+) -> Result<Told, LineRefused>
+    ensures { IfOk result (IsToldBy client) }
+{
     let what = or_refused(What::of_word(word), LineWhy::Word)?;
     let (given, behind) = or_refused(words.split_at_checked(what.count()), LineWhy::Count)?;
     let options = read_options(alloc, what.settings(), behind)?;
-    let saying = read_saying(alloc, conn, what, given, &options)?;
+    let saying = read_saying(alloc, client, what, given, &options)?;
     Ok(Told::Message {
         correlation: options.correlation,
         saying,
     })
 }
 
-/// The `say` line of these words, behind the first.
-pub(crate) fn read_say_line(alloc: Global, words: &[&[u8]]) -> Result<SayLine, LineRefused> {
-    let [conn, word, words @ ..] = words else {
+/// What these words say behind `say` and its connection. The calls among it are that client's.
+///
+/// An error has the cause for which a `say` line is refused, or is want of memory. Costs the length of the words.
+pub fn read_told(alloc: Global, client: ClientKey, words: &[&[u8]]) -> Result<Told, LineRefused>
+    ensures { IfOk result (IsToldBy client) }
+{
+    match words {
+        [word, words @ ..] if *word == b"raw".as_slice() => read_raw(alloc, words),
+        [word, words @ ..] => read_message(alloc, client, word, words),
+        [] => refused(LineWhy::Count),
+    }
+}
+
+/// The `say` line of these words, behind the first. The calls among what it says are those of its connection.
+pub fn read_say_line(alloc: Global, words: &[&[u8]]) -> Result<SayLine, LineRefused>
+    ensures { IfOk result (λ line. IsToldBy (ClientKey.OfConn line.conn) line.told) }
+{
+    let [conn, words @ ..] = words else {
         return refused(LineWhy::Count);
     };
+    if words.is_empty() {
+        return refused(LineWhy::Count);
+    }
     let conn = or_refused(read_conn(conn), LineWhy::Number)?;
-    let told = if *word == b"raw".as_slice() {
-        read_raw(alloc, words)?
-    } else {
-        read_message(alloc, conn, word, words)?
-    };
+    let told = read_told(alloc, ClientKey::OfConn(conn), words)?;
     Ok(SayLine { conn, told })
 }
