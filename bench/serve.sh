@@ -51,11 +51,11 @@ cleanup() {
 }
 trap cleanup EXIT
 
-# Ports that nobody listens at, one behind the other: the first of so many.
+# Ports that nobody listens at, one behind the other, below those that the system gives to clients: the first of so many.
 free_ports() {
     local first port
     for _ in {1..100}; do
-        first=$((20000 + RANDOM % 20000))
+        first=$((20000 + RANDOM % 12000))
         for ((port = first; port < first + $1; port++)); do
             if (exec 3<>"/dev/tcp/127.0.0.1/$port") 2>/dev/null; then
                 continue 2
